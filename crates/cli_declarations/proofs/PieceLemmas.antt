@@ -1,7 +1,6 @@
--- The program's pieces and words are the parts and words of specs/.
-use Rattle.cli_declarations.proofs.Prelude.{◌≡◌, ◌∙◌, ℕ, List, ◌++◌, OnOk, Result, Ok, Err, length, ap, refl, subst, sym, string_bytes, IsOk, WritesInCalls, TableId, Metadata, IsPartText, Part, cut_text, shown, Begins, Ends, Gains, Piece}
-use Rattle.cli_declarations.specs.declared.declared.Declared.{Declared}
-use Rattle.cli_declarations.proofs.TextLemmas.{Takes, text_cut}
+-- What was appended.
+use Rattle.cli_declarations.proofs.Prelude.{◌≡◌, ℕ, List, ◌++◌, OnOk, Result, Ok, Err, refl, string_bytes, IsOk, WritesInCalls, cut_text, Begins, Declared, Ends, Gains}
+use Rattle.cli_declarations.proofs.TextLemmas.{Takes, cut}
 
 pub on_ok : {T E P Q : Type 0} (result : Result T E) → OnOk result P → (P → Q) → OnOk result Q
 on_ok (Ok done) is f = f is
@@ -12,28 +11,10 @@ pub was_ok : {T E P : Type 0} (written : Result T E) → IsOk written → OnOk w
 was_ok (Ok done) ok is = is
 was_ok (Err error) ok is = absurd cc
 
--- a text of the file that was written between its beginning and its end has its first bytes, and a mark if it was cut
-abbrev pub WritesText : Declared → List ℕ → Declared → Type 0
-WritesText before text after = WritesInCalls (Takes (λ (w : Declared). string_bytes w.text) (λ (w : Declared). w.left) (λ (w : Declared). w.begun)) before text after
-
-pub cut : (old begun out new : Declared) (text : List ℕ) → Begins old begun → WritesText begun text out → Ends out new → string_bytes new.text ≡ string_bytes old.text ++ cut_text text
-cut old begun out new text begins wrote ends =
-    text_cut (λ (w : Declared). string_bytes w.text) (λ (w : Declared). w.left) (λ (w : Declared). w.begun) begun text out _ begins.1 (begins.2 ∙ ap length (sym begins.0)) wrote ends
-    ∙ ap (λ (b : List ℕ). b ++ cut_text text) begins.0
-
 module _ {T U E F : Type 0} (old begun out new : Declared) (written : Result T E) (result : Result U F) (begins : Begins old begun) (ends : OnOk result (IsOk written × Ends out new)) where
-  pub text_gained : (text : List ℕ) → OnOk written (WritesText begun text out) → OnOk result (string_bytes new.text ≡ string_bytes old.text ++ cut_text text)
+  pub text_gained : (text : List ℕ) → OnOk written (WritesInCalls Takes begun text out) → OnOk result (string_bytes new.text ≡ string_bytes old.text ++ cut_text text)
   text_gained text wrote = on_ok result ends (λ e. cut old begun out new text begins (was_ok written e.0 wrote) e.1)
 
-  pub some_gained : (Is : List ℕ → Type 0) → OnOk written ((text : List ℕ) × Is text × WritesText begun text out)
-      → OnOk result (Gains (λ whole. (text : List ℕ) × Is text × (whole ≡ cut_text text)) (string_bytes old.text) (string_bytes new.text))
+  pub some_gained : (Is : List ℕ → Type 0) → OnOk written ((text : List ℕ) × Is text × WritesInCalls Takes begun text out)
+      → OnOk result (Gains (λ whole. (text : List ℕ) × Is text × (whole ≡ cut_text text)) old new)
   some_gained Is wrote = on_ok result ends (λ e. let it = was_ok written e.0 wrote in (cut_text it.0, (it.0, it.1, refl), cut old begun out new it.0 begins it.2 e.1))
-
--- the text of a piece is that of its part
-module _ {T E : Type 0} (model : Metadata) (table : TableId) (row : ℕ) (piece : Piece) {part : Part} (before after : List ℕ) (result : Result T E) (is : shown piece ≡ part) where
-  pub part_gained : OnOk result (Gains (IsPartText model table row part) before after) → OnOk result (Gains (IsPartText model table row (shown piece)) before after)
-  part_gained gained = subst (λ (p : Part). OnOk result (Gains (IsPartText model table row p) before after)) (sym is) gained
-
-  pub words_gained : {text own : List ℕ} → text ≡ own → IsPartText model table row part own → OnOk result (after ≡ before ++ text)
-      → OnOk result (Gains (IsPartText model table row (shown piece)) before after)
-  words_gained {text} {own} same of gained = part_gained (on_ok result gained (λ e. (own, of, e ∙ ap (λ (t : List ℕ). before ++ t) same)))

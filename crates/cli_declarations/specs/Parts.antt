@@ -1,38 +1,26 @@
 -- The parts of a line, and their texts (ECMA-335 II.5, II.6, II.10).
 use Rattle.std.specs.Prelude.{◌≡◌, ℕ, ◌%◌, ◌==◌, Bool, true, false, nat_lt, if◌then◌else◌, List, [], ◌∷◌, ◌++◌, length, take, codes, count_by, Option, None, Some, ◌⊎◌, nat_le, option_and_then, decimal as digits}
-use Rattle.table_schema.specs.declared.table.TableId.{TableId}
-use Rattle.table_schema.specs.declared.table.TableId.TheVariants.{MethodDef, Property, Constant, ClassLayout, FieldLayout, FieldRVA, FieldMarshal, Event, Field, MemberRef, Param, TypeDef, CustomAttribute}
-use Rattle.table_schema.specs.declared.token.Token.{Token}
-use Rattle.table_schema.specs.Tokens.{hexadecimal, token_at, token_text}
+use Rattle.cli_declarations.specs.Words.{TableId, MethodDef, Property, Constant, ClassLayout, FieldLayout, FieldRVA, FieldMarshal, Event, Field, MemberRef, Param, TypeDef, CustomAttribute, Token, hexadecimal, token_at, token_text, Cell, Sig, number_in, text_in, bytes_in, guid_in, reference_in, AttributeValue, HasRow, Metadata, cell_in, Dotted, name_text, quoted_bytes, descriptor_in, descriptor_text, first_linked, linked, table_of, words_of, words_text}
 use Rattle.sig_grammar.specs.Syntax.{Method, Slot, method_body, property}
 use Rattle.sig_text.specs.Declares.{as_method}
 use Rattle.sig_text.specs.SignatureText.{text_of as pieces_of_signature}
-use Rattle.metadata.specs.Cell.{Cell, Sig, number_in, text_in, bytes_in, guid_in, reference_in}
 use Rattle.blob_values.specs.declared.types.ArgumentType.{ArgumentType}
-use Rattle.blob_values.specs.Values.{AttributeValue}
 use Rattle.blob_values.specs.Parts.{IsAttributeValue}
 use Rattle.metadata.specs.declared.member_lists.MemberList.TheVariants as list
 use Rattle.navigation.specs.Owners.{Owns}
 use Rattle.custom_attributes.specs.Params.{params_of_constructor}
 use Rattle.custom_attributes.specs.Texts.{value_text as attribute_value_text}
-use Rattle.metadata.specs.Lookups.{HasRow}
-use Rattle.metadata.specs.Metadata.{Metadata, cell_in}
 use Rattle.full_names.specs.declared.limit.Scopes.TheVariants.{Written}
-use Rattle.full_names.specs.declared.quoted.NameKind.TheVariants.{Dotted}
-use Rattle.full_names.specs.Quoted.{name_text, quoted_bytes}
 use Rattle.full_names.specs.RowNames.{IsRowNameBy}
 use Rattle.full_names.specs.Texts.{ArePiecesText, IsFullNameBy, IsPieceText}
-use Rattle.declarations.specs.Descriptors.{descriptor_in, descriptor_text}
 use Rattle.blob_values.specs.DescriptorValues.{Descriptor}
 use Rattle.declarations.specs.Declarations.{IsMethodHead, IsPropertyDeclarationBy, IsReference}
 use Rattle.navigation.specs.declared.links.Link.{Link}
-use Rattle.navigation.specs.Linked.{first_linked, linked, table_of}
 use Rattle.cli_lines.specs.Lines.{guid_text}
 use Rattle.cli_lines.specs.Texts.{escaped_bytes}
 use Rattle.type_heads.specs.Heads.{AreListed, IsInHead, enclosed}
 use Rattle.cli_values.specs.Actions.{action_text}
 use Rattle.cli_values.specs.Constants.{constant_text, value_limit, bytes_text as value_bytes_text}
-use Rattle.type_heads.specs.FlagWords.{words_of, words_text}
 use Rattle.type_heads.specs.declared.flag_words.FlagTable.{FlagTable}
 use Rattle.type_heads.specs.declared.flag_words.FlagTable.TheVariants as flags_of
 use Rattle.cli_declarations.specs.declared.layouts.Naming.{Naming}

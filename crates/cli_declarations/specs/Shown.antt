@@ -1,6 +1,6 @@
 -- The parts of the program, as values of specs/.
 use Rattle.std.specs.Prelude.{◌<◌, List, [], ◌∷◌, ⊤}
-use Rattle.table_schema.specs.declared.table.TableId.{TableId}
+use Rattle.cli_declarations.specs.Words.{TableId}
 use Rattle.table_schema.specs.CellColumns.{cell_count}
 use Rattle.cli_declarations.specs.Parts as part
 use Rattle.cli_declarations.specs.Parts.{Part}

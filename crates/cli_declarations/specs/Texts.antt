@@ -9,8 +9,11 @@ AreTexts is_text [] text = text ≡ []
 AreTexts is_text (x ∷ xs) text = (first : List ℕ) × is_text x first × (tail : List ℕ) × AreTexts is_text xs tail × (text ≡ first ++ tail)
 
 -- a text with this property follows what was there
-abbrev pub Gains : (List ℕ → Type 0) → List ℕ → List ℕ → Type 0
-Gains is_text before after = (text : List ℕ) × is_text text × (after ≡ before ++ text)
+abbrev pub Follows : (List ℕ → Type 0) → List ℕ → List ℕ → Type 0
+Follows is_text before after = (text : List ℕ) × is_text text × (after ≡ before ++ text)
+
+abbrev pub Gains : (List ℕ → Type 0) → Declared → Declared → Type 0
+Gains is_text old new = Follows is_text (string_bytes old.text) (string_bytes new.text)
 
 -- a text of the file begins after what was there, and ends, with a mark if it was cut; for private clauses
 abbrev pub Begins : Declared → Declared → Type 0

@@ -1,23 +1,18 @@
 //! Appends what the blob of a row says: the signature of a field (II.7.1), the declaration of a method (II.15.3) or a property (II.17),
 //! with the full names of types, or the value of a custom attribute (II.21, II.22.10).
 ghost use Rattle.std.specs.Prelude.{◌≡◌, ◌≤◌, ◌++◌, Some, string_bytes, OnOk};
-ghost use Rattle.table_schema.specs.declared.table.TableId.TheVariants.{CustomAttribute, Field};
+ghost use Rattle.cli_declarations.specs.Words.{CustomAttribute, Field, AttributeValue as TheValue, Metadata, cell_in, IsModel, row_count};
 ghost use Rattle.blob_values.specs.Items.{items_of};
-ghost use Rattle.blob_values.specs.Values.{AttributeValue as TheValue};
-ghost use Rattle.metadata.specs.Metadata.{Metadata, cell_in};
-ghost use Rattle.metadata.specs.Model.{IsModel};
-ghost use Rattle.opening.specs.Views.{row_count};
 ghost use Rattle.cli_declarations.specs.Parts.{IsAttributeText, IsDeclarationAt, IsSignatureOf, IsValueText, bytes_value, decoded_value, params_for};
 ghost use Rattle.cli_declarations.specs.Texts.{Gains};
 
-use crate::declared::{Declared, TextLimit, begin_text, end_text, push_plain};
+use crate::declared::{Declared, Pushed, TextLimit, begin_text, end_text, push_plain};
 use blob_values::{ArgumentType, Items};
 use cli_values::push_value_bytes;
 use custom_attributes::{Params, constructor, params_of, write_value};
 use declarations::{write_method_of, write_property_within, write_signature_text};
 use navigation::Neighbours;
 use opening::{CellRef, TableId, View, bytes_or_empty};
-use std::alloc::AllocError;
 use table_schema::SigKind;
 
 /// The index of the cell with the signature of a field (II.22.15).
@@ -31,11 +26,10 @@ const VALUE_LIMIT: usize = 1 << 16;
 
 /// Appends the text of the signature of a field.
 #[tactic(auto, unfolding(table_schema::specs::CellColumns::cell_columns))]
-fn push_signature(view: &View<'_>, row: u32, declared: &mut Declared) -> Result<(), AllocError>
+fn push_signature(view: &View<'_>, row: u32, declared: &mut Declared) -> Pushed
     requires first { 1 ≤ row }
     requires last { row ≤ row_count view.now Field }
-    ensures { (model : Metadata) → IsModel view.now model
-        → OnOk result (Gains (IsSignatureOf model (cell_in model Field row 2)) (string_bytes declared.old.text) (string_bytes declared.new.text)) }
+    ensures { (model : Metadata) → IsModel view.now model → OnOk result (Gains (IsSignatureOf model (cell_in model Field row 2)) declared.old declared.new) }
 {
     let CellRef::Sig(blob) = view.cell(TableId::Field, row, SIGNATURE) else {
         return Ok(());
@@ -47,7 +41,7 @@ fn push_signature(view: &View<'_>, row: u32, declared: &mut Declared) -> Result<
 }
 
 /// Appends the bytes of a value in hexadecimal, up to the limit.
-fn push_bytes_value(blob: &[u8], declared: &mut Declared) -> Result<(), AllocError>
+fn push_bytes_value(blob: &[u8], declared: &mut Declared) -> Pushed
     ensures { OnOk result (string_bytes declared.new.text ≡ string_bytes declared.old.text ++ bytes_value blob.now) }
 {
     push_plain(" = (", declared)?;
@@ -56,7 +50,7 @@ fn push_bytes_value(blob: &[u8], declared: &mut Declared) -> Result<(), AllocErr
 }
 
 /// Appends a value by its items, up to the limit.
-fn push_decoded(items: Items<'_, '_>, declared: &mut Declared) -> Result<(), AllocError>
+fn push_decoded(items: Items<'_, '_>, declared: &mut Declared) -> Pushed
     ensures { (v : TheValue) → items.entry ≡ items_of v
         → OnOk result (string_bytes declared.new.text ≡ string_bytes declared.old.text ++ decoded_value v) }
 {
@@ -68,12 +62,8 @@ fn push_decoded(items: Items<'_, '_>, declared: &mut Declared) -> Result<(), All
 }
 
 /// Appends a value for a constructor with these types of parameters, or its bytes if it is none.
-fn push_value(
-    params: &[ArgumentType],
-    blob: &[u8],
-    declared: &mut Declared,
-) -> Result<(), AllocError>
-    ensures { OnOk result (Gains (IsValueText (Some params.now) blob.now) (string_bytes declared.old.text) (string_bytes declared.new.text)) }
+fn push_value(params: &[ArgumentType], blob: &[u8], declared: &mut Declared) -> Pushed
+    ensures { OnOk result (Gains (IsValueText (Some params.now) blob.now) declared.old declared.new) }
 {
     match Items::of(blob, params) {
         Some(items) => push_decoded(items, declared),
@@ -96,15 +86,10 @@ fn params_for(source: &Neighbours<'_, '_>, row: u32, blob: &[u8]) -> Option<Para
 
 /// Appends the value of the attribute in a row.
 #[tactic(auto, unfolding(table_schema::specs::CellColumns::cell_columns))]
-fn push_attribute(
-    source: &Neighbours<'_, '_>,
-    row: u32,
-    declared: &mut Declared,
-) -> Result<(), AllocError>
+fn push_attribute(source: &Neighbours<'_, '_>, row: u32, declared: &mut Declared) -> Pushed
     requires first { 1 ≤ row }
     requires last { row ≤ row_count source.now.view.now CustomAttribute }
-    ensures { (model : Metadata) → IsModel source.now.view.now model
-        → OnOk result (Gains (IsAttributeText model row) (string_bytes declared.old.text) (string_bytes declared.new.text)) }
+    ensures { (model : Metadata) → IsModel source.now.view.now model → OnOk result (Gains (IsAttributeText model row) declared.old declared.new) }
 {
     let blob = bytes_or_empty(source.view, TableId::CustomAttribute, row, VALUE);
     match params_for(source, row, blob) {
@@ -121,11 +106,10 @@ pub(crate) fn push_declaration(
     table: TableId,
     row: u32,
     declared: &mut Declared,
-) -> Result<(), AllocError>
+) -> Pushed
     requires first { 1 ≤ row }
     requires last { row ≤ row_count source.now.view.now table }
-    ensures { (model : Metadata) → IsModel source.now.view.now model
-        → OnOk result (Gains (IsDeclarationAt model table row) (string_bytes declared.old.text) (string_bytes declared.new.text)) }
+    ensures { (model : Metadata) → IsModel source.now.view.now model → OnOk result (Gains (IsDeclarationAt model table row) declared.old declared.new) }
 {
     metadata::laws::models_are_read();
     metadata::laws::models_of_roots_are_valid();

@@ -1,13 +1,11 @@
 //! The declaration of a row.
 ghost use Rattle.std.specs.Prelude.{◌≡◌, ◌≤◌, ◌∷◌, ◌++◌, ℕ, List, string_bytes, OnOk};
-ghost use Rattle.metadata.specs.Metadata.{Metadata};
-ghost use Rattle.metadata.specs.Model.{IsModel};
-ghost use Rattle.opening.specs.Views.{row_count};
+ghost use Rattle.cli_declarations.specs.Words.{Metadata, IsModel, row_count};
 ghost use Rattle.cli_declarations.specs.Layouts.{IsDeclared, is_declared_in};
 ghost use Rattle.cli_declarations.specs.Parts.{IsNameText};
 ghost use Rattle.cli_declarations.specs.Texts.{Gains};
 
-use crate::declared::{Declared, push_plain};
+use crate::declared::{Declared, Pushed, push_plain};
 use crate::layouts::pieces_of;
 use crate::pieces::{push_name, push_piece};
 use navigation::Neighbours;
@@ -22,15 +20,10 @@ pub fn is_declared_in(table: TableId) -> bool
 }
 
 /// Appends the declaration of a row: the pieces of its line.
-fn push_pieces(
-    source: &Neighbours<'_, '_>,
-    token: Token,
-    declared: &mut Declared,
-) -> Result<(), AllocError>
+fn push_pieces(source: &Neighbours<'_, '_>, token: Token, declared: &mut Declared) -> Pushed
     requires first { 1 ≤ token.row }
     requires last { token.row ≤ row_count source.now.view.now token.table }
-    ensures { (model : Metadata) → IsModel source.now.view.now model
-        → OnOk result (Gains (IsDeclared model token) (string_bytes declared.old.text) (string_bytes declared.new.text)) }
+    ensures { (model : Metadata) → IsModel source.now.view.now model → OnOk result (Gains (IsDeclared model token) declared.old declared.new) }
 {
     for piece in pieces_of(token.table) {
         push_piece(source, token.table, token.row, *piece, declared)?;

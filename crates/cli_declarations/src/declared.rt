@@ -1,7 +1,6 @@
 //! The text of a declaration.
 ghost use Rattle.std.specs.Prelude.{◌≡◌, ◌++◌, take, string_bytes, IsOk, OnOk};
-ghost use Rattle.full_names.specs.declared.quoted.NameKind.TheVariants.{Dotted};
-ghost use Rattle.full_names.specs.Quoted.{name_text, quoted_bytes};
+ghost use Rattle.cli_declarations.specs.Words.{Dotted, name_text, quoted_bytes};
 ghost use Rattle.cli_declarations.specs.Parts.{cut_mark, cut_text, is_open};
 ghost use Rattle.cli_declarations.specs.Texts.{Begins, Ends};
 
@@ -11,6 +10,9 @@ use std::fmt::{self, Write};
 
 /// The number of bytes of a name, a signature or another text of the file that are printed.
 const LIMIT: usize = 1 << 16;
+
+/// What appending to a declaration returns.
+pub(crate) type Pushed = Result<(), AllocError>;
 
 /// The text of a declaration, as a writer of ASCII texts. Of a text that [`begin_text`] begins it takes the first bytes, and
 /// passes over the others. It refuses a text only if out of memory.
@@ -67,7 +69,7 @@ impl fmt::Write for Declared {
 
 /// Appends the first bytes of a text. A part of a character is refused; names and signatures are ASCII.
 #[tactic(auto, using(std::proofs::lemmas::List::take_min))]
-fn push_first(text: &str, room: usize, out: &mut String) -> Result<(), AllocError>
+fn push_first(text: &str, room: usize, out: &mut String) -> Pushed
     ensures { OnOk result (string_bytes out.new ≡ string_bytes out.old ++ take room text.now) }
 {
     match text.split_at_checked(room.min(text.len())) {
@@ -116,10 +118,7 @@ fn cut_mark(text: &[u8]) -> &'static str
 }
 
 /// Ends a text of the file that was written: appends a mark if it was cut.
-pub(crate) fn end_text<E: Drop>(
-    written: Result<(), E>,
-    declared: &mut Declared,
-) -> Result<(), AllocError>
+pub(crate) fn end_text<E: Drop>(written: Result<(), E>, declared: &mut Declared) -> Pushed
     ensures { OnOk result (IsOk written × Ends declared.old declared.new) }
 {
     if written.is_err() {
@@ -134,7 +133,7 @@ pub(crate) fn end_text<E: Drop>(
 }
 
 /// Appends a name of the file (II.5.3).
-pub(crate) fn push_text(name: &str, declared: &mut Declared) -> Result<(), AllocError>
+pub(crate) fn push_text(name: &str, declared: &mut Declared) -> Pushed
     ensures { OnOk result (string_bytes declared.new.text ≡ string_bytes declared.old.text ++ cut_text (name_text Dotted name.now)) }
 {
     begin_text(declared);
@@ -143,7 +142,7 @@ pub(crate) fn push_text(name: &str, declared: &mut Declared) -> Result<(), Alloc
 }
 
 /// Appends a text of the file as it is between quotes.
-pub(crate) fn push_string(text: &str, declared: &mut Declared) -> Result<(), AllocError>
+pub(crate) fn push_string(text: &str, declared: &mut Declared) -> Pushed
     ensures { OnOk result (string_bytes declared.new.text ≡ string_bytes declared.old.text ++ cut_text (quoted_bytes text.now)) }
 {
     begin_text(declared);
@@ -152,7 +151,7 @@ pub(crate) fn push_string(text: &str, declared: &mut Declared) -> Result<(), All
 }
 
 /// Appends a text of the program, as it is.
-pub(crate) fn push_plain(text: &str, declared: &mut Declared) -> Result<(), AllocError>
+pub(crate) fn push_plain(text: &str, declared: &mut Declared) -> Pushed
     ensures { OnOk result (string_bytes declared.new.text ≡ string_bytes declared.old.text ++ text.now) }
 {
     declared.text.push_str(text)

@@ -1,25 +1,22 @@
 //! Appends what rows add to the row that they refer to: the first of them, or all in the head of a type (II.10.1.7, II.12.2).
 ghost use Rattle.std.specs.Prelude.{◌≡◌, ◌≤◌, ◌++◌, string_bytes, OnOk};
-ghost use Rattle.metadata.specs.Metadata.{Metadata};
-ghost use Rattle.metadata.specs.Model.{IsModel};
-ghost use Rattle.declarations.specs.Descriptors.{descriptor_in, descriptor_text};
+ghost use Rattle.cli_declarations.specs.Words.{Metadata, IsModel, descriptor_in, descriptor_text, first_linked, linked, row_count};
 ghost use Rattle.blob_values.specs.DescriptorViews.{view};
-ghost use Rattle.navigation.specs.Linked.{first_linked, linked};
-ghost use Rattle.opening.specs.Views.{row_count};
 ghost use Rattle.cli_declarations.specs.Parts.{IsHeadList, address_text, cut_text, layout_text, linked_text, marshal_content, marshal_text, offset_text, referring_text, value_text};
 ghost use Rattle.cli_declarations.specs.Texts.{Gains};
 
-use crate::declared::{Declared, TextLimit, begin_text, end_text, push_plain};
+use crate::declared::{Declared, Pushed, TextLimit, begin_text, end_text, push_plain};
 use blob_values::Descriptor;
-use cli_values::{push_constant, push_decimal, push_eight_digits, push_value_bytes};
+use cli_values::{push_constant, push_value_bytes};
 use declarations::{descriptor_in, write_descriptor};
 use navigation::{Link, Neighbours};
 use opening::{TableId, Token, View, bytes_or_empty, number_or_zero};
 use std::alloc::AllocError;
+use std::fmt::Write;
 use type_heads::write_items;
 
 /// Appends the value of a constant.
-fn push_value(code: u32, value: &[u8], declared: &mut Declared) -> Result<(), AllocError>
+fn push_value(code: u32, value: &[u8], declared: &mut Declared) -> Pushed
     ensures { OnOk result (string_bytes declared.new.text ≡ string_bytes declared.old.text ++ value_text code value.now) }
 {
     push_plain(" = ", declared)?;
@@ -27,35 +24,28 @@ fn push_value(code: u32, value: &[u8], declared: &mut Declared) -> Result<(), Al
 }
 
 /// Appends the packing and the size of a type.
-fn push_layout(packing: u32, size: u32, declared: &mut Declared) -> Result<(), AllocError>
+fn push_layout(packing: u32, size: u32, declared: &mut Declared) -> Pushed
     ensures { OnOk result (string_bytes declared.new.text ≡ string_bytes declared.old.text ++ layout_text packing size) }
 {
-    push_plain(" { .pack ", declared)?;
-    push_decimal(packing as u64, &mut declared.text)?;
-    push_plain(" .size ", declared)?;
-    push_decimal(size as u64, &mut declared.text)?;
-    push_plain(" }", declared)
+    write!(declared.text, " {{ .pack {packing} .size {size} }}").map_err(|_| AllocError)
 }
 
 /// Appends the offset of a field.
-fn push_offset(offset: u32, declared: &mut Declared) -> Result<(), AllocError>
+fn push_offset(offset: u32, declared: &mut Declared) -> Pushed
     ensures { OnOk result (string_bytes declared.new.text ≡ string_bytes declared.old.text ++ offset_text offset) }
 {
-    push_plain(" [", declared)?;
-    push_decimal(offset as u64, &mut declared.text)?;
-    push_plain("]", declared)
+    write!(declared.text, " [{offset}]").map_err(|_| AllocError)
 }
 
 /// Appends the address of the data of a field.
-fn push_address(address: u32, declared: &mut Declared) -> Result<(), AllocError>
+fn push_address(address: u32, declared: &mut Declared) -> Pushed
     ensures { OnOk result (string_bytes declared.new.text ≡ string_bytes declared.old.text ++ address_text address) }
 {
-    push_plain(" at D_", declared)?;
-    push_eight_digits(address as u64, &mut declared.text)
+    write!(declared.text, " at D_{address:08x}").map_err(|_| AllocError)
 }
 
 /// Appends a descriptor, up to the limit.
-fn push_descriptor(of: Descriptor<'_>, declared: &mut Declared) -> Result<(), AllocError>
+fn push_descriptor(of: Descriptor<'_>, declared: &mut Declared) -> Pushed
     ensures { OnOk result (string_bytes declared.new.text ≡ string_bytes declared.old.text ++ cut_text (descriptor_text (view of.entry))) }
 {
     begin_text(declared);
@@ -64,7 +54,7 @@ fn push_descriptor(of: Descriptor<'_>, declared: &mut Declared) -> Result<(), Al
 }
 
 /// Appends the descriptor that a blob is, or its bytes if it is none.
-fn push_content(blob: &[u8], declared: &mut Declared) -> Result<(), AllocError>
+fn push_content(blob: &[u8], declared: &mut Declared) -> Pushed
     ensures { OnOk result (string_bytes declared.new.text ≡ string_bytes declared.old.text ++ marshal_content (descriptor_in blob.now) blob.now) }
 {
     match descriptor_in(blob) {
@@ -74,7 +64,7 @@ fn push_content(blob: &[u8], declared: &mut Declared) -> Result<(), AllocError>
 }
 
 /// Appends how a field is marshalled, by the blob of its row of FieldMarshal.
-fn push_marshal(blob: &[u8], declared: &mut Declared) -> Result<(), AllocError>
+fn push_marshal(blob: &[u8], declared: &mut Declared) -> Pushed
     ensures { OnOk result (string_bytes declared.new.text ≡ string_bytes declared.old.text ++ marshal_text blob.now) }
 {
     push_plain(" marshal(", declared)?;
@@ -85,12 +75,7 @@ fn push_marshal(blob: &[u8], declared: &mut Declared) -> Result<(), AllocError>
 /// Appends what a row of a table adds to the row that it refers to: the value of a constant (II.22.9), the layout of a type (II.22.8),
 /// and of a field the offset (II.22.16), the address of its data (II.22.18) or how it is marshalled (II.22.17).
 #[tactic(auto, unfolding(table_schema::specs::CellColumns::cell_columns))]
-fn push_referring(
-    view: &View<'_>,
-    table: TableId,
-    row: u32,
-    declared: &mut Declared,
-) -> Result<(), AllocError>
+fn push_referring(view: &View<'_>, table: TableId, row: u32, declared: &mut Declared) -> Pushed
     requires first { 1 ≤ row }
     requires last { row ≤ row_count view.now table }
     ensures { (model : Metadata) → IsModel view.now model
@@ -129,7 +114,7 @@ pub(crate) fn push_linked(
     link: Link,
     token: Token,
     declared: &mut Declared,
-) -> Result<(), AllocError>
+) -> Pushed
     requires { token.row ≤ row_count source.now.view.now token.table }
     ensures { (model : Metadata) → IsModel source.now.view.now model
         → OnOk result (string_bytes declared.new.text ≡ string_bytes declared.old.text ++ linked_text model link (first_linked model link token)) }
@@ -150,10 +135,9 @@ pub(crate) fn push_listed(
     after: &str,
     token: Token,
     declared: &mut Declared,
-) -> Result<(), AllocError>
+) -> Pushed
     requires { token.row ≤ row_count source.now.view.now token.table }
-    ensures { (model : Metadata) → IsModel source.now.view.now model
-        → OnOk result (Gains (IsHeadList model link before.now after.now (linked model link token)) (string_bytes declared.old.text) (string_bytes declared.new.text)) }
+    ensures { (model : Metadata) → IsModel source.now.view.now model → OnOk result (Gains (IsHeadList model link before.now after.now (linked model link token)) declared.old declared.new) }
 {
     // The table has at most 0xFFFFFF rows.
     let _count = source.view.count(token.table);

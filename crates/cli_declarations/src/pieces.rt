@@ -1,18 +1,13 @@
 //! Appends the pieces of a line.
 ghost use Rattle.std.specs.Prelude.{◌≡◌, ◌≤◌, ◌<◌, ◌++◌, true, string_bytes, OnOk};
-ghost use Rattle.table_schema.specs.declared.table.TableId.TheVariants.{Param};
-ghost use Rattle.metadata.specs.Metadata.{Metadata};
-ghost use Rattle.metadata.specs.Model.{IsModel};
-ghost use Rattle.type_heads.specs.FlagWords.{shown_word, word_text, words_of, words_text};
-ghost use Rattle.opening.specs.Views.{row_count};
-ghost use Rattle.table_schema.specs.Tokens.{token_text};
+ghost use Rattle.cli_declarations.specs.Words.{Param, Metadata, IsModel, shown_word, word_text, words_of, words_text, row_count, token_text};
 ghost use Rattle.cli_declarations.specs.Parts.{IsAfter, IsNameText, IsNaming, IsPartText, IsReferenceIn, IsReferred, bytes_text, guid_text_in_comment, has_reference, key_text, quoted_text};
 ghost use Rattle.cli_declarations.specs.Shown.{IsWithin, shown};
 ghost use Rattle.cli_declarations.specs.Texts.{Gains};
 
 use crate::blob_sink::push_declaration;
 use crate::declared::{
-    Declared, TextLimit, begin_text, end_text, push_plain, push_string, push_text,
+    Declared, Pushed, TextLimit, begin_text, end_text, push_plain, push_string, push_text,
 };
 use crate::layouts::{Naming, Piece};
 use crate::linked::{push_linked, push_listed};
@@ -34,7 +29,7 @@ use type_heads::{FlagTable, FlagWord, words_of};
 const SEQUENCE: usize = 1;
 
 /// Appends a space and the word, if the flags have its value.
-fn push_word(flags: u32, word: FlagWord, declared: &mut Declared) -> Result<(), AllocError>
+fn push_word(flags: u32, word: FlagWord, declared: &mut Declared) -> Pushed
     ensures { OnOk result (string_bytes declared.new.text ≡ string_bytes declared.old.text ++ word_text flags (shown_word word)) }
 {
     if flags & word.mask != word.value {
@@ -45,14 +40,15 @@ fn push_word(flags: u32, word: FlagWord, declared: &mut Declared) -> Result<(), 
 }
 
 /// Appends the digits of a token.
-fn push_token(token: Token, declared: &mut Declared) -> Result<(), AllocError>
+fn push_token(token: Token, declared: &mut Declared) -> Pushed
     ensures { OnOk result (string_bytes declared.new.text ≡ string_bytes declared.old.text ++ token_text token) }
 {
     write!(declared.text, "{token}").map_err(|_| AllocError)
 }
 
 /// Appends the words of flags, a space before each.
-fn push_words(flags: u32, of: FlagTable, declared: &mut Declared) -> Result<(), AllocError>
+#[tactic(auto, using(crate::proofs::TextLemmas::items_more))]
+fn push_words(flags: u32, of: FlagTable, declared: &mut Declared) -> Pushed
     ensures { OnOk result (string_bytes declared.new.text ≡ string_bytes declared.old.text ++ words_text flags (words_of of)) }
 {
     for word in words_of(of) {
@@ -62,7 +58,7 @@ fn push_words(flags: u32, of: FlagTable, declared: &mut Declared) -> Result<(), 
 }
 
 /// Appends a word and a text in quotes, unless the text is empty.
-fn push_quoted(word: &str, text: &str, declared: &mut Declared) -> Result<(), AllocError>
+fn push_quoted(word: &str, text: &str, declared: &mut Declared) -> Pushed
     ensures { OnOk result (string_bytes declared.new.text ≡ string_bytes declared.old.text ++ quoted_text word.now text.now) }
 {
     if text.is_empty() {
@@ -75,7 +71,7 @@ fn push_quoted(word: &str, text: &str, declared: &mut Declared) -> Result<(), Al
 }
 
 /// Appends a word and bytes in parentheses, unless there are none.
-fn push_bytes(word: &str, bytes: &[u8], declared: &mut Declared) -> Result<(), AllocError>
+fn push_bytes(word: &str, bytes: &[u8], declared: &mut Declared) -> Pushed
     ensures { OnOk result (string_bytes declared.new.text ≡ string_bytes declared.old.text ++ bytes_text word.now bytes.now) }
 {
     if bytes.is_empty() {
@@ -88,7 +84,7 @@ fn push_bytes(word: &str, bytes: &[u8], declared: &mut Declared) -> Result<(), A
 }
 
 /// Appends the words for a public key or the token of one, and its bytes, unless there are none.
-fn push_key(flags: u32, bytes: &[u8], declared: &mut Declared) -> Result<(), AllocError>
+fn push_key(flags: u32, bytes: &[u8], declared: &mut Declared) -> Pushed
     ensures { OnOk result (string_bytes declared.new.text ≡ string_bytes declared.old.text ++ key_text flags bytes.now) }
 {
     if bytes.is_empty() {
@@ -103,9 +99,8 @@ pub(crate) fn push_name(
     source: &Neighbours<'_, '_>,
     token: Token,
     declared: &mut Declared,
-) -> Result<(), AllocError>
-    ensures { (model : Metadata) → IsModel source.now.view.now model
-        → OnOk result (Gains (IsNameText model token) (string_bytes declared.old.text) (string_bytes declared.new.text)) }
+) -> Pushed
+    ensures { (model : Metadata) → IsModel source.now.view.now model → OnOk result (Gains (IsNameText model token) declared.old declared.new) }
 {
     begin_text(declared);
     let written = write_row_name(declared.alloc, source, token, &TextLimit, declared);
@@ -128,13 +123,8 @@ fn has_reference(table: TableId) -> bool
 }
 
 /// Appends the reference to a type, a member or a MemberRef.
-fn push_member(
-    source: &Neighbours<'_, '_>,
-    token: Token,
-    declared: &mut Declared,
-) -> Result<(), AllocError>
-    ensures { (model : Metadata) → IsModel source.now.view.now model
-        → OnOk result (Gains (IsReferred model true token) (string_bytes declared.old.text) (string_bytes declared.new.text)) }
+fn push_member(source: &Neighbours<'_, '_>, token: Token, declared: &mut Declared) -> Pushed
+    ensures { (model : Metadata) → IsModel source.now.view.now model → OnOk result (Gains (IsReferred model true token) declared.old declared.new) }
 {
     begin_text(declared);
     let written = write_reference(declared.alloc, source, token, &TextLimit, declared);
@@ -143,13 +133,8 @@ fn push_member(
 
 /// Appends the reference to a parameter: its position, and the reference to its method; or its token if it does not exist.
 #[tactic(auto, unfolding(table_schema::specs::CellColumns::cell_columns))]
-fn push_param(
-    source: &Neighbours<'_, '_>,
-    token: Token,
-    declared: &mut Declared,
-) -> Result<(), AllocError>
-    ensures { (model : Metadata) → IsModel source.now.view.now model
-        → OnOk result (Gains (IsReferenceIn model Param token) (string_bytes declared.old.text) (string_bytes declared.new.text)) }
+fn push_param(source: &Neighbours<'_, '_>, token: Token, declared: &mut Declared) -> Pushed
+    ensures { (model : Metadata) → IsModel source.now.view.now model → OnOk result (Gains (IsReferenceIn model Param token) declared.old declared.new) }
 {
     if token.row == 0 || token.row > source.view.count(TableId::Param) {
         return push_token(token, declared);
@@ -166,13 +151,8 @@ fn push_param(
 }
 
 /// Appends the reference to a row, or its token if the reference does not say which row it is.
-fn push_reference(
-    source: &Neighbours<'_, '_>,
-    token: Token,
-    declared: &mut Declared,
-) -> Result<(), AllocError>
-    ensures { (model : Metadata) → IsModel source.now.view.now model
-        → OnOk result (Gains (IsReferenceIn model token.table token) (string_bytes declared.old.text) (string_bytes declared.new.text)) }
+fn push_reference(source: &Neighbours<'_, '_>, token: Token, declared: &mut Declared) -> Pushed
+    ensures { (model : Metadata) → IsModel source.now.view.now model → OnOk result (Gains (IsReferenceIn model token.table token) declared.old declared.new) }
 {
     match token.table {
         TableId::Param => push_param(source, token, declared),
@@ -187,9 +167,8 @@ fn push_row(
     how: Naming,
     token: Token,
     declared: &mut Declared,
-) -> Result<(), AllocError>
-    ensures { (model : Metadata) → IsModel source.now.view.now model
-        → OnOk result (Gains (IsNaming how model token) (string_bytes declared.old.text) (string_bytes declared.new.text)) }
+) -> Pushed
+    ensures { (model : Metadata) → IsModel source.now.view.now model → OnOk result (Gains (IsNaming how model token) declared.old declared.new) }
 {
     match how {
         Naming::Token => push_token(token, declared),
@@ -205,9 +184,8 @@ fn push_after(
     how: Naming,
     reference: Option<Token>,
     declared: &mut Declared,
-) -> Result<(), AllocError>
-    ensures { (model : Metadata) → IsModel source.now.view.now model
-        → OnOk result (Gains (IsAfter model word.now how reference) (string_bytes declared.old.text) (string_bytes declared.new.text)) }
+) -> Pushed
+    ensures { (model : Metadata) → IsModel source.now.view.now model → OnOk result (Gains (IsAfter model word.now how reference) declared.old declared.new) }
 {
     match reference {
         Some(token) => {
@@ -219,7 +197,7 @@ fn push_after(
 }
 
 /// Appends a GUID in braces in a comment, unless it is null.
-fn push_guid_comment(guid: Option<[u8; 16]>, declared: &mut Declared) -> Result<(), AllocError>
+fn push_guid_comment(guid: Option<[u8; 16]>, declared: &mut Declared) -> Pushed
     ensures { OnOk result (string_bytes declared.new.text ≡ string_bytes declared.old.text ++ guid_text_in_comment guid) }
 {
     match guid {
@@ -240,11 +218,11 @@ pub(crate) fn push_piece(
     row: u32,
     piece: Piece,
     declared: &mut Declared,
-) -> Result<(), AllocError>
+) -> Pushed
     requires first { 1 ≤ row }
     requires last { row ≤ row_count source.now.view.now table }
     requires within { IsWithin table (shown piece) }
-    ensures { (model : Metadata) → IsModel source.now.view.now model → OnOk result (Gains (IsPartText model table row (shown piece)) (string_bytes declared.old.text) (string_bytes declared.new.text)) }
+    ensures { (model : Metadata) → IsModel source.now.view.now model → OnOk result (Gains (IsPartText model table row (shown piece)) declared.old declared.new) }
 {
     let (view, token) = (source.view, Token { table, row });
     match piece {

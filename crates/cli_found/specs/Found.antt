@@ -1,7 +1,6 @@
 -- The line of the offset of a fault: the number there, and what its rule compares it with (ECMA-335 II.22 to II.25).
-use Rattle.std.specs.Prelude.{◌≡◌, ◌⊎◌, ◌&&◌, ◌-◌, ◌+◌, ◌/◌, ◌%◌, ◌^◌, ◌==◌, ℕ, Bool, not, nat_le, nat_lt, if◌then◌else◌, List, [], ◌∷◌, ◌++◌, codes, count_by, decimal, length, take, Option, None, Some, option_and_then, slice_get}
+use Rattle.std.specs.Prelude.{◌≡◌, ◌⊎◌, ◌&&◌, ◌-◌, ◌+◌, ◌/◌, ◌%◌, ◌^◌, ◌==◌, ℕ, Bool, not, nat_le, nat_lt, if◌then◌else◌, List, [], ◌∷◌, ◌++◌, codes, count_by, decimal, length, take, Option, None, Some, option_and_then, option_map, slice_get}
 use Rattle.std.specs.List.{list_any}
-use Rattle.std.specs.Option.{option_map}
 use Rattle.packed.specs.Codes.{number_of_code}
 use Rattle.packed.specs.declared.code.FaultCode.{FaultCode}
 use Rattle.packed.specs.declared.code.FaultCode.TheVariants.{DosHeader, PeSignature, OptionalHeader, Pe32PlusSize, Magic, Directories, Sections, NoCliHeader, CliAddress, CliSize, MetadataAddress, RootSignature, Version, NoTables, TablesVersion, HeapSizes, UnknownTable, RowCount, NotSorted, BadRun, NoOwner, NestedOrder, EntryPoint}

@@ -1,6 +1,6 @@
 -- The words of other crates that this crate uses.
 pub use Rattle.cli_lines.specs.Lines.{Part, plain, spaced, Value, field, member, number, word}
-pub use Rattle.cli_lines.specs.Printed.{Adds, Prints}
+pub use Rattle.cli_lines.specs.Printed.{Adds, Begins, Prints}
 pub use Rattle.cli_lines.specs.declared.names.Name.{Name}
 pub use Rattle.cli_regions.specs.Kept.{seen, seen_what}
 pub use Rattle.cli_regions.specs.Regions.{Region, What, cell, scalar}

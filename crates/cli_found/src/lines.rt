@@ -1,7 +1,6 @@
 //! Prints the line of the offset of a fault.
-ghost use Rattle.std.specs.Prelude.{◌≡◌, ◌∷◌, ◌+◌, ◌≤◌, [], IfSome, length, List, map, Some};
-ghost use Rattle.std.specs.Option.{option_map};
-ghost use Rattle.cli_found.specs.Words.{little_endian, part, Prints, seen, seen_what};
+ghost use Rattle.std.specs.Prelude.{◌≡◌, ◌∷◌, ◌+◌, ◌≤◌, [], IfSome, length, List, map, option_map, Some};
+ghost use Rattle.cli_found.specs.Words.{little_endian, part, Adds, Begins, Prints, seen, seen_what};
 ghost use Rattle.cli_lines.specs.Lines.{Part as ThePart};
 ghost use Rattle.cli_found.specs.Found.{AreFound, IsFound, cell_of, field_size, last_of, lead_at, number_of_cell, offset_line, value_line};
 ghost use Rattle.cli_found.specs.Kept.{IsFieldSize, lead_of, lead_text, shown_found, shown_limit};
@@ -58,34 +57,36 @@ fn print_offset<W: Write>(alloc: Global, offset: u64, out: &mut Printer<'_, W>)
     }
 }
 
-/// Prints the line of a number, which begins with this text.
-#[tactic(auto, unfolding(crate::specs::Found::value_line))]
-fn print_parts<'a, W: Write>(
-    text: &'a str,
-    lead: Lead,
-    limit: Option<Limit<'a>>,
-    out: &mut Printer<'_, W>,
-)
-    requires { text.now ≡ lead_text lead }
-    ensures { Prints out.old out.new (value_line lead.offset lead.number lead.coded (shown_limit limit.entry) ∷ []) }
+/// Begins the line of a number.
+pub(crate) fn begin_number<W: Write>(alloc: Global, lead: Lead, out: &mut Printer<'_, W>)
+    ensures { Begins out.old out.new (value_line lead.offset lead.number lead.coded []) }
 {
-    match limit {
-        Some(limit) => out.line(&[
+    cli_lines::laws::parts_follow::<W>();
+    out.start();
+    match lead.to_string(alloc) {
+        Ok(text) => out.parts(&[
             Member(Name::Offset, Number(lead.offset)),
-            Word(text),
+            Word(&text),
             Member(Name::Value, Number(lead.number)),
+        ]),
+        Err(_) => out.fail(),
+    }
+}
+
+/// Adds what a number is compared with, if there is a limit.
+fn add_limit<W: Write>(limit: Option<Limit<'_>>, out: &mut Printer<'_, W>)
+    ensures { Adds out.old out.new (shown_limit limit.entry) }
+{
+    cli_lines::laws::parts_follow::<W>();
+    if let Some(limit) = limit {
+        out.parts(&[
             Word("; "),
             Word(limit.before),
             Field(limit.name, limit.of),
             Word(" has "),
             Field(Name::Limit, Number(limit.limit)),
             Word(limit.unit),
-        ]),
-        None => out.line(&[
-            Member(Name::Offset, Number(lead.offset)),
-            Word(text),
-            Member(Name::Value, Number(lead.number)),
-        ]),
+        ]);
     }
 }
 
@@ -164,7 +165,7 @@ fn cell_of(what: What<'_>) -> Option<TableCell>
 {
     match what {
         What::Cell(cell) => Some(cell),
-        What::Words(_) | What::Scalar(_) | What::Entry(_, _) | What::UserString(_) => None,
+        _ => None,
     }
 }
 
@@ -237,11 +238,13 @@ pub fn print_found<W: Write>(
 )
     ensures { (lines : List (List ThePart)) × AreFound rule input bytes.now offset (map seen structures.now) lines × Prints out.old out.new lines }
 {
+    cli_lines::laws::parts_follow::<W>();
     match number_at_fault(rule, bytes, input, offset, structures) {
-        Some((lead, limit)) => match lead.to_string(alloc) {
-            Ok(text) => print_parts(&text, lead, limit, out),
-            Err(_) => out.fail(),
-        },
+        Some((lead, limit)) => {
+            begin_number(alloc, lead, out);
+            add_limit(limit, out);
+            out.end();
+        }
         None => print_offset(alloc, offset, out),
     }
 }

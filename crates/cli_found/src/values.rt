@@ -4,14 +4,12 @@ ghost use Rattle.cli_found.specs.Words.{cell_count, Metadata, Adds, Prints, seen
 ghost use Rattle.metadata.specs.Model.{IsModel};
 ghost use Rattle.opening.specs.Views.{row_count};
 ghost use Rattle.cli_found.specs.Found.{column_number};
-ghost use Rattle.cli_found.specs.Values.{cell_lead, is_reference, lead_in, meaning_in, reference, refers, value_lines};
+ghost use Rattle.cli_found.specs.Values.{is_reference, lead_in, meaning_in, reference, refers, value_lines};
 
 use crate::flags::{flags_at, print_flags};
 use crate::limits::{coded_of, column_number, kind_of};
-use crate::lines::{Lead, last_of, number_of};
+use crate::lines::{Lead, begin_number, last_of, number_of};
 use cli_cells::{Names, print_cell};
-use cli_lines::Part::{Member, Word};
-use cli_lines::Value::Number;
 use cli_lines::{Name, Printer};
 use cli_regions::{Structure, What};
 use opening::{CellCursor, Token, View};
@@ -42,20 +40,15 @@ fn is_reference(view: &View<'_>, cell: TableCell) -> bool
 }
 
 /// Adds what a cell refers to, if its number stands for something else.
-fn print_reference<W: Write>(
-    alloc: Global,
-    view: &View<'_>,
-    cell: TableCell,
-    out: &mut Printer<'_, W>,
-)
-    ensures { (model : Metadata) → IsModel view.now model → Adds out.old out.new (reference model cell) }
+fn add_reference<W: Write>(alloc: Global, view: &View<'_>, at: TableCell, out: &mut Printer<'_, W>)
+    ensures { (model : Metadata) → IsModel view.now model → Adds out.old out.new (reference model at) }
 {
     cli_lines::laws::parts_follow::<W>();
-    if !is_reference(view, cell) {
+    if !is_reference(view, at) {
         return;
     }
-    let TableCell { table, row, .. } = cell;
-    let cell_index = column_number(cell);
+    let TableCell { table, row, .. } = at;
+    let cell_index = column_number(at);
     let (name, row) = (Name::Cell(table, cell_index), Token { table, row });
     let mut cells = CellCursor::new(view);
     print_cell(alloc, Names::Hidden, name, &mut cells, row, cell_index, out);
@@ -78,28 +71,21 @@ fn print_meaning<W: Write>(
                 let named = Name::Cell(cell.table, column_number(cell));
                 print_flags(alloc, named, of, number, out);
             }
-            None => print_reference(alloc, view, cell, out),
+            None => add_reference(alloc, view, cell, out),
         }
     }
 }
 
-/// The number that a cell is; padding is none (II.22.9).
-fn cell_lead(bytes: &[u8], of: Structure<'_>, kind: ColumnKind) -> Option<Lead>
-    ensures { result ≡ cell_lead bytes.now (seen of.entry) kind }
-{
-    match kind {
-        ColumnKind::Padding => None,
-        _ => number_of(bytes, of.start, of.size, coded_of(kind)),
-    }
-}
-
-/// The number that a structure is, if it is one.
+/// The number that a structure is, if it is one; padding is none (II.22.9).
 fn lead_in(bytes: &[u8], of: Structure<'_>) -> Option<Lead>
     ensures { result ≡ lead_in bytes.now (seen of.entry) (seen_what of.entry.what) }
 {
     match of.what {
-        What::Scalar(_) => number_of(bytes, of.start, of.size, None),
-        What::Cell(cell) => cell_lead(bytes, of, kind_of(cell)),
+        What::Scalar(_, _) => number_of(bytes, of.start, of.size, None),
+        What::Cell(cell) => match kind_of(cell) {
+            ColumnKind::Padding => None,
+            kind => number_of(bytes, of.start, of.size, coded_of(kind)),
+        },
         _ => None,
     }
 }
@@ -114,29 +100,16 @@ pub fn print_value<W: Write>(
     alloc: Global,
     bytes: &[u8],
     view: &View<'_>,
-    structures: &[Structure<'_>],
+    found: &[Structure<'_>],
     out: &mut Printer<'_, W>,
 )
-    ensures { (model : Metadata) → IsModel view.now model → Prints out.old out.new (value_lines model bytes.now (map seen structures.now)) }
+    ensures { (model : Metadata) → IsModel view.now model → Prints out.old out.new (value_lines model bytes.now (map seen found.now)) }
 {
     cli_lines::laws::lines_follow::<W>();
     cli_lines::laws::parts_follow::<W>();
-    let Some(of) = last_of(structures) else {
-        return;
-    };
-    let Some(lead) = lead_in(bytes, of) else {
-        return;
-    };
-    match lead.to_string(alloc) {
-        Ok(text) => {
-            out.begin(&[
-                Member(Name::Offset, Number(lead.offset)),
-                Word(&text),
-                Member(Name::Value, Number(lead.number)),
-            ]);
-            print_meaning(alloc, view, of.what, lead.number, out);
-            out.end();
-        }
-        Err(_) => out.fail(),
-    }
+    let Some(of) = last_of(found) else { return };
+    let Some(it) = lead_in(bytes, of) else { return };
+    begin_number(alloc, it, out);
+    print_meaning(alloc, view, of.what, it.number, out);
+    out.end();
 }

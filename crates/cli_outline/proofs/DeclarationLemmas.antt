@@ -1,5 +1,5 @@
 -- The first word of a declaration, and its line in each form.
-use Rattle.cli_outline.proofs.Prelude.{◌≡◌, ◌<◌, Bool, true, false, not, ℕ, List, None, Some, sym, arith, [], ◌∷◌, ◌++◌, Option, refl, subst, inl, inr, get_or, length, ltb, lt-ltb, le-ltb, cases_lt, unwrap_or, position, position_or_len, nat_tests, Token, Text, Letters, JsonLines, Part, line_from, style, styled_text, as_is, Tokens, declaration_line, ends_word, json_line, text_line, unindented, Asked, Printed, Prints}
+use Rattle.cli_outline.proofs.Prelude.{◌≡◌, ◌<◌, Bool, true, false, not, ℕ, List, None, Some, sym, arith, [], ◌∷◌, ◌++◌, Option, refl, subst, get_or, length, unwrap_or, position, position_or_len, nat_tests, Token, Text, Letters, JsonLines, Part, line_from, style, styled_text, as_is, Tokens, declaration_line, ends_word, json_line, text_line, unindented, Asked, Printed, Prints}
 use Rattle.std.specs.Str.{IsCharBoundary}
 use Rattle.std.proofs.lemmas.List.Sums.{passes_at_first, prefix_len-le-length}
 use Rattle.cli_lines.specs.declared.parts.Form.{Form}
@@ -18,12 +18,7 @@ word_boundary text = (
 
 -- a search finds its end
 pub word_len : (text : List ℕ) → unwrap_or (position ends_word text) (length text) ≡ position_or_len ends_word text
-word_len text =
-    let most = prefix_len-le-length (λ byte. not (ends_word byte)) text in
-    elim (cases_lt (position_or_len ends_word text) (length text)) [
-      | inl lt ↦ let t : ltb (position_or_len ends_word text) (length text) ≡ true = lt-ltb _ _ lt in rw t refl
-      | inr le ↦ let t : ltb (position_or_len ends_word text) (length text) ≡ false = le-ltb _ _ le in rw t (omega (arith, le, most))
-    ]
+word_len text = let most = prefix_len-le-length (λ byte. not (ends_word byte)) text in grind (arith, nat_tests)
 
 -- ---- the line in each form
 
@@ -50,9 +45,9 @@ same_json file Shown of class directive declared = refl
 same_json file Hidden of class directive declared = refl
 
 -- a line is printed if one with the same text is
-pub line_printed : {W : Type 0} (a b : Printed W) (line other : List Part) (form : Form) → a.style.form ≡ form
+pub line_printed : {W : Type 0} {a b : Printed W} {line other : List Part} {form : Form} → a.style.form ≡ form
     → styled_text (style form a.style.file) (other ∷ []) ≡ styled_text (style form a.style.file) (line ∷ []) → Prints a b (other ∷ []) → Prints a b (line ∷ [])
-line_printed a b line other form is same printed = record {
+line_printed {a = a} {b = b} {line = line} {other = other} is same printed = record {
   same = printed.same;
   asked = λ start text asked. subst (λ (t : List ℕ). Asked start b (text ++ t))
       (subst (λ (f : Form). styled_text (style f a.style.file) (other ∷ []) ≡ styled_text (style f a.style.file) (line ∷ [])) (sym is) same) (printed.asked start text asked);

@@ -1,5 +1,5 @@
 -- Rows in the order of their keys.
-use Rattle.cli_outline.proofs.Prelude.{◌≡◌, ◌∙◌, ℕ, zero, suc, ◌+◌, ◌-◌, ◌<◌, ◌≤◌, List, [], ◌∷◌, ◌++◌, All, ap, arith, length, refl, subst, sym, slice_get, range_with_len, IsPermutation, All-permutation, TableId, Metadata, IsModel, member_of, MemberList, Keyed, TableOrder, OutlineOptions, AreGrouped, AreInOrder, AreMembers, IsRowIn, grouping_of, keyed_cmp, rows_of, run_start, map-id}
+use Rattle.cli_outline.proofs.Prelude.{◌≡◌, ◌∙◌, ℕ, zero, suc, ◌+◌, ◌-◌, ◌<◌, ◌≤◌, List, [], ◌∷◌, ◌++◌, All, ap, arith, length, sym, slice_get, range_with_len, IsPermutation, All-permutation, TableId, Metadata, IsModel, Keyed, TableOrder, OutlineOptions, AreGrouped, IsRowIn, grouping_of, keyed_cmp, rows_of, map-id}
 use Rattle.std.specs.Cmp.{IsTotalOrder}
 use Rattle.std.proofs.lemmas.Cmp.{nat_cmp_total, nat_list_cmp_total, on_total, then_total}
 use Rattle.std.proofs.lemmas.List.FromFn.{get_or-range_with_len, length-range_with_len, map-range_with_len_more}
@@ -19,15 +19,6 @@ rows_within first past count found same from to = All-permutation (λ row. (1 �
     let long = length-range_with_len first (past - first) in
     let is = get_or-range_with_len first (past - first) k d (omega (arith, lt, long)) in
     (omega (arith, is, from), omega (arith, is, lt, long, to)))
-
--- the members of one more owner
-pub members_more : (options : OutlineOptions) (model : Metadata) (list : MemberList) (owner : ℕ) (before found : List ℕ) → 1 ≤ owner → AreMembers options model list (owner - 1) before
-    → AreInOrder options model (member_of list) (run_start model list owner) (run_start model list (owner + 1)) found → AreMembers options model list (owner + 1 - 1) (before ++ found)
-members_more options model list zero before found from are one = absurd (omega (arith, from))
-members_more options model list (suc n) before found from are one =
-    let less : suc n - 1 ≡ n = omega arith in
-    let more : suc n + 1 - 1 ≡ suc n = omega arith in
-    subst (λ (k : ℕ). AreMembers options model list k (before ++ found)) (sym more) (before, subst (λ (k : ℕ). AreMembers options model list k before) less are, found, one, refl)
 
 -- each order at its index, after one more
 pub pushed : (P : ℕ → List ℕ → Type 0) (orders : List TableOrder) (new : TableOrder) → ((k : ℕ) → k < length orders → P k (rows_of (slice_get orders k))) → P (length orders) new.rows.items

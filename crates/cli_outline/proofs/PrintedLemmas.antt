@@ -1,5 +1,6 @@
 -- The lines of rows, one after another.
 use Rattle.cli_outline.proofs.Prelude.{◌≡◌, Bool, true, false, cond, ℕ, suc, ◌+◌, ◌-◌, ◌<◌, ◌≤◌, List, [], ◌∷◌, ◌++◌, Option, None, Some, refl, ap, sym, subst, append_assoc, append-nil, arith, IsSome, filter-append, flat_map, range_with_len, Token, Metadata, Part, OutlineOptions, each_from, row_at, AreLines, IsLine, PrintsRows, is_shown, shown_rows, Printed, Prints}
+use Rattle.cli_lines.proofs.PrintedLemmas.{prints_more, prints_nothing}
 
 lines_append : (options : OutlineOptions) (model : Metadata) (xs ys : List Token) (a b : List (List Part)) → AreLines options model xs a → AreLines options model ys b → AreLines options model (xs ++ ys) (a ++ b)
 lines_append options model [] ys a b are more = subst (λ (lines : List (List Part)). AreLines options model ys (lines ++ b)) (sym are) more
@@ -18,12 +19,12 @@ module _ {W : Type 0} (options : OutlineOptions) (model : Metadata) where
     all = all;
   }
 
-  pub rows_nothing : (a : Printed W) → Prints a a [] → PrintsRows options model a a []
-  rows_nothing a printed = none_printed a a [] [] refl printed (λ some. refl)
+  pub rows_nothing : (a : Printed W) → PrintsRows options model a a []
+  rows_nothing a = none_printed a a [] [] refl (prints_nothing a) (λ some. refl)
 
   -- a row without a line
-  pub row_hidden : (a : Printed W) (row : Token) → is_shown options model row ≡ false → Prints a a [] → PrintsRows options model a a (row ∷ [])
-  row_hidden a row hidden printed = none_printed a a (row ∷ []) [] (ap (λ (shows : Bool). cond shows (row ∷ []) []) hidden) printed (λ some. refl)
+  pub row_hidden : (a : Printed W) (row : Token) → is_shown options model row ≡ false → PrintsRows options model a a (row ∷ [])
+  row_hidden a row hidden = none_printed a a (row ∷ []) [] (ap (λ (shows : Bool). cond shows (row ∷ []) []) hidden) (prints_nothing a) (λ some. refl)
 
   pub rows_failed : (a b : Printed W) (rows : List Token) → Prints a b [] → b.waiting ≡ None → PrintsRows options model a b rows
   rows_failed a b rows printed failed = none_printed a b rows (shown_rows options model rows) refl printed (λ some. let no = rw failed at some in cc)
@@ -41,10 +42,9 @@ module _ {W : Type 0} (options : OutlineOptions) (model : Metadata) where
     all = λ some. refl;
   }
 
-  module _ (joined : (a b c : Printed W) (xs ys : List (List Part)) → Prints a b xs → Prints b c ys → Prints a c (xs ++ ys)) (a b c : Printed W) (xs ys : List Token)
-      (prefix : PrintsRows options model a b xs) (back : PrintsRows options model b c ys) where
-    after_failure : b.waiting ≡ None → PrintsRows options model a c (xs ++ ys)
-    after_failure failed =
+  module _ (a b c : Printed W) (xs ys : List Token) (prefix : PrintsRows options model a b xs) (back : PrintsRows options model b c ys) where
+    after : (waiting : Option (List ℕ)) → b.waiting ≡ waiting → PrintsRows options model a c (xs ++ ys)
+    after None failed =
         let same = back.printed.same.stays failed in
         record {
           first = prefix.first;
@@ -55,9 +55,7 @@ module _ {W : Type 0} (options : OutlineOptions) (model : Metadata) where
           printed = rw same prefix.printed;
           all = λ some. let no = rw (same, failed) at some in cc;
         }
-
-    after_all : (bytes : List ℕ) → b.waiting ≡ Some bytes → PrintsRows options model a c (xs ++ ys)
-    after_all bytes live =
+    after (Some bytes) live =
         let none_left = prefix.all (rw live refl) in
         record {
           first = prefix.first ++ back.first;
@@ -65,16 +63,12 @@ module _ {W : Type 0} (options : OutlineOptions) (model : Metadata) where
           whole = rw (filter-append (is_shown options model) xs ys, prefix.whole, none_left, append-nil prefix.first, back.whole, append_assoc);
           lines = prefix.lines ++ back.lines;
           are = lines_append options model prefix.first back.first prefix.lines back.lines prefix.are back.are;
-          printed = joined a b c prefix.lines back.lines prefix.printed back.printed;
+          printed = prints_more a b c prefix.lines back.lines prefix.printed back.printed;
           all = back.all;
         }
 
-    after_either : (waiting : Option (List ℕ)) → b.waiting ≡ waiting → PrintsRows options model a c (xs ++ ys)
-    after_either None is = after_failure is
-    after_either (Some bytes) is = after_all bytes is
-
     pub rows_more : PrintsRows options model a c (xs ++ ys)
-    rows_more = after_either b.waiting refl
+    rows_more = after b.waiting refl
 
 -- what there is for the first number, and for the others
 pub each_more : (rows : ℕ → List Token) (order : List ℕ) (number past : ℕ) → number < past → each_from rows order number past ≡ rows (row_at order number) ++ each_from rows order (number + 1) past

@@ -2,15 +2,9 @@
 use Rattle.std.specs.Prelude.{◌==◌, ◌||◌, ℕ, Bool, true, false, not, bit_and, List, [], ◌∷◌, codes, drop, Option, None, Some}
 use Rattle.std.specs.Char.{is_ascii_whitespace}
 use Rattle.std.specs.List.{before_first, prefix_len}
-use Rattle.table_schema.specs.declared.table.TableId.{TableId}
-use Rattle.table_schema.specs.declared.table.TableId.TheVariants.{MethodSemantics}
-use Rattle.table_schema.specs.declared.token.Token.{Token}
+use Rattle.cli_outline.specs.Words.{TableId, MethodSemantics, Token, Metadata, cell_in, Part, member, note, plain, text, token, word, as_is, Tokens}
 use Rattle.metadata.specs.Cell.{number_in}
-use Rattle.metadata.specs.Metadata.{Metadata, cell_in}
-use Rattle.cli_lines.specs.Lines.{Part, member, note, plain, text, token, word}
 use Rattle.cli_lines.specs.declared.names.Name.TheVariants as name
-use Rattle.cli_sending.specs.AsIs.{as_is}
-use Rattle.cli_names.specs.declared.source.Tokens.{Tokens}
 use Rattle.cli_names.specs.declared.source.Tokens.TheVariants.{Shown, Hidden}
 
 -- a space or a parenthesis: the first word ends before it

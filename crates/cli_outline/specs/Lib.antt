@@ -1,3 +1,4 @@
+pub mod Words
 pub mod Declarations
 pub mod Orders
 pub mod Outline

@@ -4,24 +4,13 @@ use Rattle.std.specs.Cmp.Lexicographic.{slice_cmp}
 use Rattle.std.specs.List.{range_with_len}
 use Rattle.std.specs.Ordering.{nat_cmp, ordering_then}
 use Rattle.std.specs.declared.cmp.Ordering.{Ordering}
-use Rattle.table_schema.specs.declared.table.TableId.{TableId}
-use Rattle.table_schema.specs.declared.table.TableId.TheVariants.{Field, MethodDef, Event, Property, MethodSemantics, TypeRef, MemberRef}
-use Rattle.table_schema.specs.declared.token.Token.{Token}
-use Rattle.table_schema.specs.Tokens.{token_at}
-use Rattle.metadata.specs.Metadata.{Metadata, count_in}
+use Rattle.cli_outline.specs.Words.{TableId, Field, MethodDef, Event, Property, MethodSemantics, TypeRef, MemberRef, Token, token_at, Metadata, count_in, MemberList, member_of, owner_of, IsDeclared, is_declared_in, OutlineOptions, ByName, ByRow, Order, run_start, is_shown}
 use Rattle.metadata.specs.declared.member_lists.MemberList.TheVariants as list
-use Rattle.metadata.specs.declared.member_lists.MemberList.{MemberList}
-use Rattle.metadata.specs.MemberLists.{member_of, owner_of}
-use Rattle.cli_declarations.specs.Layouts.{IsDeclared, is_declared_in}
 use Rattle.cli_declarations.specs.Parts.{IsNameText}
 use Rattle.cli_outline.specs.declared.orders.Grouping.{Grouping}
 use Rattle.cli_outline.specs.declared.orders.Grouping.TheVariants.{Members, Nothing, Table}
 use Rattle.cli_outline.specs.declared.orders.Keyed.{Keyed}
-use Rattle.cli_names.specs.declared.source.OutlineOptions.{OutlineOptions}
 use Rattle.cli_names.specs.declared.source.Sorting.{Sorting}
-use Rattle.cli_names.specs.declared.source.Sorting.TheVariants.{ByName, ByRow}
-use Rattle.cli_names.specs.Orders.{Order, run_start}
-use Rattle.cli_names.specs.Shown.{is_shown}
 use Rattle.cli_outline.specs.Outline.{outline_rows}
 
 -- the number of bytes of a key, by the number of rows that are put in order together

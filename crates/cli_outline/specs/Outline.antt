@@ -1,18 +1,10 @@
 -- The outline of a model: which rows have a line, and in which order (ECMA-335 II.22).
-use Rattle.std.specs.Prelude.{ℕ, ◌+◌, ◌-◌, List, [], ◌∷◌, ◌++◌}
+use Rattle.std.specs.Prelude.{ℕ, ◌+◌, ◌-◌, Bool, true, false, if◌then◌else◌, List, [], ◌∷◌, ◌++◌}
 use Rattle.std.specs.List.{flat_map, range_with_len}
-use Rattle.table_schema.specs.declared.table.TableId.{TableId}
-use Rattle.table_schema.specs.declared.table.TableId.TheVariants.{Assembly, AssemblyRef, Module, ModuleRef, File, ManifestResource, ExportedType, TypeDef, InterfaceImpl, GenericParam, GenericParamConstraint, MethodImpl, MethodSemantics, ImplMap, DeclSecurity, CustomAttribute, TypeRef, MemberRef, Param}
-use Rattle.table_schema.specs.declared.token.Token.{Token}
-use Rattle.table_schema.specs.Tokens.{token_at}
-use Rattle.metadata.specs.Metadata.{Metadata, count_in}
-use Rattle.metadata.specs.declared.member_lists.MemberList.{MemberList}
+use Rattle.cli_outline.specs.Words.{TableId, Assembly, AssemblyRef, Module, ModuleRef, File, ManifestResource, ExportedType, TypeDef, InterfaceImpl, GenericParam, GenericParamConstraint, MethodImpl, MethodSemantics, Event, Property, ImplMap, DeclSecurity, CustomAttribute, TypeRef, MemberRef, Param, Token, token_at, Metadata, count_in, MemberList, member_of, linked, Order, row_at, run_start}
 use Rattle.metadata.specs.declared.member_lists.MemberList.TheVariants as list
-use Rattle.metadata.specs.MemberLists.{member_of}
 use Rattle.navigation.specs.declared.links.Link.{Link}
 use Rattle.navigation.specs.declared.links.Link.TheVariants as linked_by
-use Rattle.navigation.specs.Linked.{linked}
-use Rattle.cli_names.specs.Orders.{Order, row_at, run_start}
 
 -- the order of the rows themselves
 abbrev pub by_row : Order
@@ -26,33 +18,28 @@ each_from rows order first past = flat_map (λ position. rows (row_at order posi
 abbrev pub row_of : TableId → ℕ → List Token
 row_of table row = token_at table row ∷ []
 
+-- the rows of a table have accessors
+abbrev pub has_accessors : TableId → Bool
+has_accessors Event = true
+has_accessors Property = true
+has_accessors _ = false
+
+-- a row, and after an event or a property its accessors (II.22.28)
+unfoldable pub own_rows : Metadata → TableId → ℕ → List Token
+own_rows model table row =
+    token_at table row ∷ (if has_accessors table then flat_map (row_of MethodSemantics) (linked model linked_by.Accessors (token_at table row)) else [])
+
 -- all rows of a table
 abbrev pub all_rows : Order → Metadata → TableId → List Token
-all_rows order model table = each_from (row_of table) (order table) 1 (count_in model table + 1)
+all_rows order model table = each_from (own_rows model table) (order table) 1 (count_in model table + 1)
 
--- what there is for each member of an owner: its members end before those of the next owner (II.22.37)
-abbrev pub each_member : Order → Metadata → MemberList → (ℕ → List Token) → ℕ → List Token
-each_member order model list rows owner = each_from rows (order (member_of list)) (run_start model list owner) (run_start model list (owner + 1))
-
--- the members of a type
+-- the members of an owner: a type, or a row of EventMap or PropertyMap. They end before those of the next owner (II.22.37)
 abbrev pub members : Order → Metadata → MemberList → ℕ → List Token
-members order model list class = each_member order model list (row_of (member_of list)) class
-
--- ---- events and properties
-
--- an event or a property, and its accessors (II.22.28)
-unfoldable pub accessed_rows : Metadata → TableId → ℕ → List Token
-accessed_rows model table row = token_at table row ∷ flat_map (row_of MethodSemantics) (linked model linked_by.Accessors (token_at table row))
-
--- the events or the properties of a row of EventMap or PropertyMap
-abbrev pub mapped_rows : Order → Metadata → MemberList → ℕ → List Token
-mapped_rows order model list row = each_member order model list (accessed_rows model (member_of list)) row
+members order model list owner = each_from (own_rows model (member_of list)) (order (member_of list)) (run_start model list owner) (run_start model list (owner + 1))
 
 -- the events or the properties of a type: those of each row of their map that refers to it, wherever it stands (II.22.12, II.22.35)
 unfoldable pub type_rows : Order → Metadata → MemberList → Link → ℕ → List Token
-type_rows order model list link class = flat_map (mapped_rows order model list) (linked model link (token_at TypeDef class))
-
--- ---- the whole
+type_rows order model list link class = flat_map (members order model list) (linked model link (token_at TypeDef class))
 
 -- a type, its fields, its methods, its events and its properties
 unfoldable pub class_rows : Order → Metadata → ℕ → List Token

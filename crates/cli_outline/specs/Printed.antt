@@ -1,14 +1,8 @@
 -- What a printer was asked to print of the outline.
 use Rattle.std.specs.Prelude.{◌≡◌, ◌≢◌, ◌⊎◌, ℕ, List, [], ◌∷◌, ◌++◌, codes, Option, None, Some, IsSome}
-use Rattle.table_schema.specs.declared.token.Token.{Token}
-use Rattle.metadata.specs.Metadata.{Metadata}
+use Rattle.cli_outline.specs.Words.{Token, Metadata, Part, Printed, Prints, OutlineOptions, shown_rows, IsDeclared}
 use Rattle.full_names.specs.RowNames.{IsMemberOf}
-use Rattle.cli_lines.specs.Lines.{Part}
-use Rattle.cli_lines.specs.Printed.{Printed, Prints}
-use Rattle.cli_names.specs.declared.source.OutlineOptions.{OutlineOptions}
-use Rattle.cli_names.specs.Shown.{shown_rows}
 use Rattle.cli_outline.specs.Declarations.{declaration_line, has_directive}
-use Rattle.cli_declarations.specs.Layouts.{IsDeclared}
 
 -- the directive of the entry point (II.6.2.3, II.15.4.1.2) follows the declaration of the row that is it
 abbrev pub IsEntryText : Option Token → Token → List ℕ → Type 0

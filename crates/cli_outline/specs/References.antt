@@ -1,15 +1,8 @@
 -- What is printed of the types of other modules that are asked for (ECMA-335 II.22.25 and II.22.38).
 use Rattle.std.specs.Prelude.{List, [], ◌∷◌, ⊤, flat_map}
-use Rattle.table_schema.specs.declared.table.TableId.TheVariants.{MemberRef, TypeRef}
-use Rattle.table_schema.specs.declared.token.Token.{Token}
-use Rattle.metadata.specs.Metadata.{Metadata}
-use Rattle.cli_lines.specs.Printed.{Printed as Printer}
-use Rattle.cli_names.specs.declared.subject.Subject.{Subject}
-use Rattle.cli_names.specs.Refs.{BelongsTo, HasSome, IsMeantRef}
+use Rattle.cli_outline.specs.Words.{MemberRef, TypeRef, Token, Metadata, Printed as Printer, Subject, BelongsTo, HasSome, IsMeantRef, OutlineOptions, AreChosenBy}
 use Rattle.cli_outline.specs.declared.outline.Outcome.{Outcome}
 use Rattle.cli_outline.specs.declared.outline.Outcome.TheVariants.{Printed, NoSuchType, OutOfMemory}
-use Rattle.cli_names.specs.declared.source.OutlineOptions.{OutlineOptions}
-use Rattle.cli_names.specs.Chosen.{AreChosenBy}
 use Rattle.cli_outline.specs.Outline.{all_rows, by_row}
 use Rattle.cli_outline.specs.Printed.{PrintsRows}
 

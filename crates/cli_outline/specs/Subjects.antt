@@ -1,18 +1,9 @@
 -- What is printed of the type, or of the other row, that is asked for (ECMA-335 II.22). Of a type these are the rows that describe it or what it
 -- declares: parameters with default values, interfaces, generic parameters and their constraints, overrides, imports, permission sets and attributes.
 use Rattle.std.specs.Prelude.{◌≡◌, ◌≢◌, ◌⊎◌, ◌&&◌, ℕ, Bool, true, false, List, [], ◌∷◌, ◌++◌, ⊤, flat_map}
-use Rattle.table_schema.specs.declared.table.TableId.TheVariants.{TypeDef}
-use Rattle.table_schema.specs.declared.token.Token.{Token}
-use Rattle.metadata.specs.Metadata.{Metadata}
+use Rattle.cli_outline.specs.Words.{TypeDef, Token, Metadata, Printed as Printer, is_declared_in, AreChosenBy, IsChosen, IsDescribing, Order, has_line, OutlineOptions, Subject}
 use Rattle.navigation.specs.Nesting.{type_token}
-use Rattle.cli_lines.specs.Printed.{Printed as Printer}
-use Rattle.cli_declarations.specs.Layouts.{is_declared_in}
-use Rattle.cli_names.specs.Chosen.{AreChosenBy, IsChosen, IsDescribing}
-use Rattle.cli_names.specs.Orders.{Order}
-use Rattle.cli_names.specs.Shown.{has_line}
 use Rattle.cli_names.specs.declared.chosen.Choice.{Choice}
-use Rattle.cli_names.specs.declared.source.OutlineOptions.{OutlineOptions}
-use Rattle.cli_names.specs.declared.subject.Subject.{Subject}
 use Rattle.cli_names.specs.Subjects.{IsSubject}
 use Rattle.cli_outline.specs.declared.outline.Outcome.{Outcome}
 use Rattle.cli_outline.specs.declared.outline.Outcome.TheVariants.{Printed, NoSuchType, OutOfMemory}
@@ -21,9 +12,10 @@ use Rattle.cli_outline.specs.Outline.{all_rows, class_rows, last_tables}
 use Rattle.cli_outline.specs.Printed.{PrintsRows, PrintsSome}
 
 -- the lines of those of some rows that are chosen were printed; for private clauses
-abbrev pub PrintsChosen : {W : Type 0} → OutlineOptions → Metadata → Choice → Printer W → Printer W → List Token → Type 0
-PrintsChosen options model of old new rows =
-    (found : List Token) × AreChosenBy (IsChosen model of true) (IsChosen model of false) rows found × PrintsRows options model old new found
+pub record PrintsChosen {W : Type 0} (options : OutlineOptions) (model : Metadata) (of : Choice) (old new : Printer W) (rows : List Token) : Type 0 where
+  pub found : List Token
+  pub chosen : AreChosenBy (IsChosen model of true) (IsChosen model of false) rows found
+  pub printed : PrintsRows options model old new found
 
 -- those of some rows that describe a type or what it declares, in the same order
 abbrev pub AreDescribing : Metadata → Token → List Token → List Token → Type 0

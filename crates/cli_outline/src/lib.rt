@@ -2,9 +2,9 @@
 //!
 //! [`print_outline`] prints the outline of a view, [`print_outline_of`] that of one type or row, [`print_refs`] what a view refers
 //! to in other modules, and [`print_refs_of`] what of one type. [`OutlineOptions`] says what is shown. `specs/Outline.antt` says which
-//! rows can have a line, `specs/Orders.antt` in which order, and `specs/Shown.antt` which of them have one. `specs/Layouts.antt` says what the declaration of a row is, as a list of parts,
-//! `specs/Parts.antt` what the text of a part is, and `specs/Declarations.antt` what the line of a declaration is. It is
-//! proved that these lines are printed and nothing else.
+//! rows can have a line, and `specs/Orders.antt` in which order. `specs/Declarations.antt` says what the line of a declaration is.
+//! `cli_names` says which rows have a line, and `cli_declarations` what the declaration of a row is. It is proved that these lines
+//! are printed and nothing else.
 //!
 //! ```text
 //! .assembly Hello { .hash algorithm 0x00008004 .ver 1:0:0:0 }  // 20000001

@@ -1,22 +1,18 @@
 //! The line of a declaration.
 ghost use Rattle.std.specs.Prelude.{◌≡◌, ◌≤◌, ◌∷◌, [], OnOk, string_bytes};
 ghost use Rattle.std.specs.List.{before_first, position};
-ghost use Rattle.metadata.specs.Metadata.{Metadata};
-ghost use Rattle.metadata.specs.Model.{IsModel};
-ghost use Rattle.opening.specs.Views.{row_count};
-ghost use Rattle.cli_lines.specs.declared.parts.Form.TheVariants.{JsonLines};
-ghost use Rattle.cli_lines.specs.Printed.{Prints};
+ghost use Rattle.cli_outline.specs.Words.{Metadata, IsModel, row_count, JsonLines, Prints, Tokens as TheTokens};
 ghost use Rattle.cli_lines.specs.Shown.{shown};
 ghost use Rattle.cli_outline.specs.Declarations.{declaration_line, directive_part, ends_word, has_directive, json_line, text_line, type_part};
 ghost use Rattle.cli_outline.specs.Outline.{row_of};
-ghost use Rattle.cli_outline.specs.Printed.{IsRowText, PrintsRows};
-ghost use Rattle.cli_names.specs.declared.source.Tokens.{Tokens as TheTokens};
+ghost use Rattle.cli_outline.specs.Printed.{IsRowText};
+ghost use Rattle.cli_outline.specs.Subjects.{PrintsChosen};
 
 use cli_declarations::{Declared, declare};
 use cli_lines::Part::{Member, Note, Word};
 use cli_lines::Value::{self, Plain, Text};
 use cli_lines::{Form, Name, Part, Printer};
-use cli_names::{Source, Tokens};
+use cli_names::{Choice, Source, Tokens, is_chosen};
 use cli_sending::text_as_is;
 use full_names::type_of_member;
 use opening::{TableId, Token, View, number_or_zero};
@@ -151,18 +147,21 @@ fn declare_row(
     Ok(())
 }
 
-/// Prints the line of a row, if it has one. The type of a member is found by binary search.
+/// Prints the line of a row, if it has one and is chosen. The type of a member is found by binary search.
 pub(crate) fn print_row<W: Write>(
     source: &Source<'_, '_>,
+    choice: Choice<'_, '_>,
     token: Token,
     declared: &mut Declared,
     out: &mut Printer<'_, W>,
 )
     requires first { 1 ≤ token.row }
     requires last { token.row ≤ row_count source.now.neighbours.view.now token.table }
-    ensures { (model : Metadata) → IsModel source.now.neighbours.view.now model → PrintsRows source.now.options model out.old out.new (row_of token.table token.row) }
+    ensures { (model : Metadata) → IsModel source.now.neighbours.view.now model → PrintsChosen source.now.options model choice.entry out.old out.new (row_of token.table token.row) }
 {
-    cli_lines::laws::lines_follow::<W>();
+    if !is_chosen(source, choice, token) {
+        return;
+    }
     if !source.shows(token) {
         return;
     }

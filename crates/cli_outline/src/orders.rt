@@ -1,15 +1,8 @@
 //! The rows of tables in the order of their names.
 ghost use Rattle.std.specs.Prelude.{◌≡◌, ◌≤◌, ◌+◌, ◌-◌, ◌++◌, ℕ, List, All, IfOk, OnOk, map};
 ghost use Rattle.std.specs.List.{range_with_len};
-ghost use Rattle.metadata.specs.Metadata.{Metadata};
-ghost use Rattle.metadata.specs.Model.{IsModel};
-ghost use Rattle.metadata.specs.declared.member_lists.MemberList.{MemberList as TheList};
-ghost use Rattle.metadata.specs.MemberLists.{member_of};
-ghost use Rattle.opening.specs.Views.{row_count};
+ghost use Rattle.cli_outline.specs.Words.{Metadata, IsModel, MemberList as TheList, member_of, row_count, ByName, AreRowsIn, IsRowIn, order_in, is_shown};
 ghost use Rattle.cli_outline.specs.declared.orders.Grouping.TheVariants.{Members};
-ghost use Rattle.cli_names.specs.declared.source.Sorting.TheVariants.{ByName};
-ghost use Rattle.cli_names.specs.Orders.{AreRowsIn, IsRowIn, order_in};
-ghost use Rattle.cli_names.specs.Shown.{is_shown};
 ghost use Rattle.cli_outline.specs.Orders.{AreGrouped, AreInOrder, IsKey, IsKeyed, IsOrder, grouping_of, key_limit, keyed_cmp, row_of_keyed};
 
 use cli_declarations::{Declared, is_declared_in, name_and_declare};
@@ -141,8 +134,8 @@ fn members_in_order(
 {
     let mut order = Vec::new(declared.alloc);
     let mut cells = CellCursor::new(source.neighbours.view);
-    for owner in 1..source.neighbours.view.count(list.owner()) + 1 {
-        let rows = run_of(&mut cells, list, owner);
+    for earlier in 0..source.neighbours.view.count(list.owner()) {
+        let rows = run_of(&mut cells, list, earlier + 1);
         push_in_order(source, list.member(), rows, declared, &mut order)?;
     }
     Ok(order)

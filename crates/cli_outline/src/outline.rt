@@ -1,18 +1,12 @@
 //! Prints the outline of a view.
 ghost use Rattle.std.specs.Prelude.{◌≡◌, ◌≤◌, ◌+◌};
-ghost use Rattle.table_schema.specs.declared.table.TableId.TheVariants.{TypeDef};
-ghost use Rattle.table_schema.specs.Tokens.{token_at};
-ghost use Rattle.metadata.specs.Metadata.{Metadata, count_in};
-ghost use Rattle.metadata.specs.Model.{IsModel};
-ghost use Rattle.metadata.specs.MemberLists.{owner_of};
-ghost use Rattle.navigation.specs.Linked.{number_to, table_of};
-ghost use Rattle.opening.specs.Views.{row_count};
-ghost use Rattle.cli_outline.specs.Outline.{accessed_rows, class_rows, each_from, mapped_rows, members, outline_rows, refs_rows, type_rows};
-ghost use Rattle.cli_names.specs.Orders.{order_in};
+ghost use Rattle.cli_outline.specs.Words.{TypeDef, token_at, Metadata, count_in, IsModel, owner_of, number_to, table_of, row_count, order_in};
+ghost use Rattle.cli_outline.specs.Outline.{class_rows, each_from, members, outline_rows, refs_rows, type_rows};
+ghost use Rattle.cli_names.specs.declared.chosen.Choice.TheVariants.{All};
 ghost use Rattle.cli_outline.specs.Orders.{AreOutlineRows};
 ghost use Rattle.cli_outline.specs.Printed.{PrintsRows, PrintsSome};
 ghost use Rattle.cli_outline.specs.References.{PrintsRefs};
-ghost use Rattle.cli_outline.specs.Subjects.{AreTypeRows, PrintsNone, PrintsSubject, is_declared};
+ghost use Rattle.cli_outline.specs.Subjects.{AreTypeRows, PrintsChosen, PrintsNone, PrintsSubject, is_declared};
 
 use crate::chosen::{print_chosen, print_positions};
 use crate::line::print_row;
@@ -62,7 +56,7 @@ pub enum Outcome {
     OutOfMemory,
 }
 
-/// Prints the lines of a type's members of one kind.
+/// Prints the lines of the members of a type or of a row of EventMap or PropertyMap, each with its accessors.
 fn print_members<W: Write>(
     source: &Source<'_, '_>,
     cells: &mut CellCursor<'_, '_>,
@@ -75,58 +69,10 @@ fn print_members<W: Write>(
     requires last { row ≤ row_count cells.old (owner_of list) }
     requires at { cells.old ≡ source.now.neighbours.view.now }
     ensures same { cells.new ≡ cells.old }
-    ensures lines { (model : Metadata) → IsModel source.now.neighbours.view.now model → PrintsRows source.now.options model out.old out.new (members (order_in source.now.orders.items) model list row) }
+    ensures lines { (model : Metadata) → IsModel source.now.neighbours.view.now model → PrintsChosen source.now.options model All out.old out.new (members (order_in source.now.orders.items) model list row) }
 {
     let rows = run_of(cells, list, row);
     print_positions(source, list.member(), rows, Choice::All, declared, out);
-}
-
-/// Prints the line of an event or a property, and those of its accessors.
-fn print_accessed<W: Write>(
-    source: &Source<'_, '_>,
-    token: Token,
-    declared: &mut Declared,
-    out: &mut Printer<'_, W>,
-)
-    requires first { 1 ≤ token.row }
-    requires last { token.row ≤ row_count source.now.neighbours.view.now token.table }
-    ensures { (model : Metadata) → IsModel source.now.neighbours.view.now model → PrintsRows source.now.options model out.old out.new (accessed_rows model token.table token.row) }
-{
-    cli_lines::laws::lines_follow::<W>();
-    print_row(source, token, declared, out);
-    // The table has at most 0xFFFFFF rows.
-    let _count = source.neighbours.view.count(token.table);
-    let number = Link::Accessors.number_to(token);
-    let accessors = source.neighbours.linked(Link::Accessors, number);
-    for accessor in accessors {
-        let (table, row) = (TableId::MethodSemantics, accessor.row);
-        print_row(source, Token { table, row }, declared, out);
-    }
-}
-
-/// Prints the lines of the events or the properties of a row of their map, each with its accessors.
-fn print_map<W: Write>(
-    source: &Source<'_, '_>,
-    cells: &mut CellCursor<'_, '_>,
-    list: MemberList,
-    map: u32,
-    declared: &mut Declared,
-    out: &mut Printer<'_, W>,
-)
-    requires first { 1 ≤ map }
-    requires last { map ≤ row_count cells.old (owner_of list) }
-    requires at { cells.old ≡ source.now.neighbours.view.now }
-    ensures same { cells.new ≡ cells.old }
-    ensures lines { (model : Metadata) → IsModel source.now.neighbours.view.now model → PrintsRows source.now.options model out.old out.new (mapped_rows (order_in source.now.orders.items) model list map) }
-{
-    cli_lines::laws::lines_follow::<W>();
-    let rows = run_of(cells, list, map);
-    let (first, past) = (rows.start, rows.end);
-    let table = list.member();
-    for position in first..past {
-        let row = source.row_at(table, position);
-        print_accessed(source, Token { table, row }, declared, out);
-    }
 }
 
 /// Prints the lines of the events or the properties of a type. The rows of their map refer to it by the link.
@@ -143,12 +89,11 @@ fn print_mapped<W: Write>(
     requires number { class ≡ number_to link (token_at TypeDef class) }
     requires at { cells.old ≡ source.now.neighbours.view.now }
     ensures same { cells.new ≡ cells.old }
-    ensures lines { (model : Metadata) → IsModel source.now.neighbours.view.now model → PrintsRows source.now.options model out.old out.new (type_rows (order_in source.now.orders.items) model list link class) }
+    ensures lines { (model : Metadata) → IsModel source.now.neighbours.view.now model → PrintsChosen source.now.options model All out.old out.new (type_rows (order_in source.now.orders.items) model list link class) }
 {
-    cli_lines::laws::lines_follow::<W>();
     let maps = source.neighbours.linked(link, class);
     for map in maps {
-        print_map(source, cells, list, map.row, declared, out);
+        print_members(source, cells, list, map.row, declared, out);
     }
 }
 
@@ -165,11 +110,10 @@ fn print_class<W: Write>(
     requires last { row ≤ row_count cells.old TypeDef }
     requires at { cells.old ≡ source.now.neighbours.view.now }
     ensures same { cells.new ≡ cells.old }
-    ensures lines { (model : Metadata) → IsModel source.now.neighbours.view.now model → PrintsRows source.now.options model out.old out.new (class_rows (order_in source.now.orders.items) model row) }
+    ensures lines { (model : Metadata) → IsModel source.now.neighbours.view.now model → PrintsChosen source.now.options model All out.old out.new (class_rows (order_in source.now.orders.items) model row) }
 {
-    cli_lines::laws::lines_follow::<W>();
     let table = TableId::TypeDef;
-    print_row(source, Token { table, row }, declared, out);
+    print_row(source, Choice::All, Token { table, row }, declared, out);
     print_members(source, cells, MemberList::Fields, row, declared, out);
     print_members(source, cells, MemberList::Methods, row, declared, out);
     let (list, link) = (MemberList::Events, Link::Events);
@@ -184,9 +128,8 @@ fn print_classes<W: Write>(
     declared: &mut Declared,
     out: &mut Printer<'_, W>,
 )
-    ensures { (model : Metadata) → IsModel source.now.neighbours.view.now model → PrintsRows source.now.options model out.old out.new (each_from (class_rows (order_in source.now.orders.items) model) (order_in source.now.orders.items TypeDef) 1 (count_in model TypeDef + 1)) }
+    ensures { (model : Metadata) → IsModel source.now.neighbours.view.now model → PrintsChosen source.now.options model All out.old out.new (each_from (class_rows (order_in source.now.orders.items) model) (order_in source.now.orders.items TypeDef) 1 (count_in model TypeDef + 1)) }
 {
-    cli_lines::laws::lines_follow::<W>();
     let mut cells = CellCursor::new(source.neighbours.view);
     let count = source.neighbours.view.count(TableId::TypeDef);
     for position in 1..count + 1 {
@@ -199,7 +142,6 @@ fn print_classes<W: Write>(
 fn print_all<W: Write>(source: &Source<'_, '_>, declared: &mut Declared, out: &mut Printer<'_, W>)
     ensures { (model : Metadata) → IsModel source.now.neighbours.view.now model → PrintsRows source.now.options model out.old out.new (outline_rows (order_in source.now.orders.items) model) }
 {
-    cli_lines::laws::lines_follow::<W>();
     print_chosen(source, FIRST_TABLES, Choice::All, declared, out);
     print_classes(source, declared, out);
     print_chosen(source, LAST_TABLES, Choice::All, declared, out);
@@ -309,7 +251,6 @@ fn print_type<W: Write>(
     requires last { row ≤ row_count view.now TypeDef }
     ensures { (model : Metadata) → IsModel view.now model → PrintsSome options model (AreTypeRows options model row) out.old out.new }
 {
-    cli_lines::laws::lines_follow::<W>();
     match sorted_source(alloc, view, options) {
         Ok(source) => {
             let mut cells = CellCursor::new(source.neighbours.view);
@@ -360,6 +301,6 @@ pub fn print_outline_of<W: Write>(
     if !declares(&source, token) {
         return Outcome::NoSuchType;
     }
-    print_row(&source, token, &mut Declared::new(alloc), out);
+    print_row(&source, Choice::All, token, &mut Declared::new(alloc), out);
     Outcome::Printed
 }

@@ -1,5 +1,5 @@
 -- What several proofs of this crate name of std, of the crates below, and of its own definitions and lemmas.
-pub use Rattle.std.proofs.Common.{◌≡◌, None, Some, eqb, ℕ, ◌+◌, ◌*◌, ◌/◌, ◌%◌, ◌<◌, ◌≤◌, List, [], ◌∷◌, ◌++◌, length, ap, arith, length-append, ◌-◌, sym, suc, ◌∙◌, Option, refl, min, take, append-nil, map, drop, codes, get_or}
+pub use Rattle.std.proofs.Common.{◌≡◌, None, Some, eqb, ℕ, ◌+◌, ◌*◌, ◌/◌, ◌≤◌, List, [], ◌∷◌, ◌++◌, length, ap, arith, length-append, ◌-◌, sym, ◌∙◌, Option, refl, min, take, append-nil, map, drop, codes, get_or}
 pub use Rattle.std.proofs.lemmas.Bool.{cond-false, false_from_ne_true, leb-true, le-leb}
 pub use Rattle.std.proofs.lemmas.List.{take_min, drop_all, drop_more, take-map, length-drop, length-take, take_all}
 pub use Rattle.std.proofs.lemmas.List.Elements.{All-cons, All-nil, All-rest, All-same}

@@ -1,5 +1,5 @@
 -- What a search keeps.
-use Rattle.std.proofs.Common.{◌≡◌, ◌∙◌, ◌+◌, ℕ, List, [], ◌++◌, refl, ap, arith, subst, sym, append_assoc, append-nil}
+use Rattle.std.proofs.Common.{◌≡◌, ◌∙◌, ◌+◌, ℕ, List, [], ◌++◌, refl, ap, subst, sym, append_assoc, append-nil}
 use Rattle.std.proofs.lemmas.List.{flat_map_more, map-id}
 use Rattle.std.proofs.lemmas.List.FromFn.{map-range_with_len_more}
 use Rattle.std.specs.List.{flat_map, range_with_len}
@@ -31,9 +31,9 @@ and_then {old} {between} {new} {xs} {ys} first later =
     record { joins = rw (filter-append (λ (of : Region). has_byte of.start of.size old.offset) xs ys) (joins_more first.joins there) }
 
 -- those of one more number
-pub numbered_more : (f : ℕ → List Region) (n : ℕ) → flat_map f (range_with_len 0 n) ++ f n ≡ flat_map f (range_with_len 0 (n + 1))
-numbered_more f n =
-    flat_map_more f [] (range_with_len 0 n) n ∙ ap (flat_map f) (sym (simp map-id at (map-range_with_len_more (λ (k : ℕ). k) 0 n n (omega arith))))
+pub numbered_more : {X : Type 0} (f : ℕ → List X) (first count next : ℕ) → first + count ≡ next → flat_map f (range_with_len first count) ++ f next ≡ flat_map f (range_with_len first (count + 1))
+numbered_more f first count next at =
+    flat_map_more f [] (range_with_len first count) next ∙ ap (flat_map f) (sym (simp map-id at (map-range_with_len_more (λ (k : ℕ). k) first count next at)))
 
 -- the same structures by another name
 pub said_as : {old new : Searched} {xs ys : List Region} → Adds old new xs → xs ≡ ys → Adds old new ys

@@ -13,7 +13,6 @@ use Rattle.cli_regions.specs.declared.searches.Name.TheVariants.{Empty, Plain, T
 use Rattle.cli_regions.specs.declared.searches.Structure.{Structure}
 use Rattle.cli_regions.specs.declared.searches.What.{What}
 use Rattle.cli_regions.specs.declared.searches.What.TheVariants as what
-use Rattle.cli_regions.specs.declared.searches.Words.{Words}
 
 -- a name after a space, and nothing for an empty one
 abbrev pub name_text : Name → List ℕ
@@ -23,12 +22,9 @@ name_text (Text name) = codes " " ++ escaped_text name.now
 name_text (Section number name) = numbered number name.now
 name_text (Table table) = codes " " ++ table_words table
 
-abbrev pub words_text : Words → List ℕ
-words_text of = of.word.now ++ name_text of.name
-
 abbrev pub seen_what : What → TheWhat
-seen_what (what.Words of) = words (words_text of)
-seen_what (what.Scalar of) = scalar (words_text of)
+seen_what (what.Words word name) = words (word.now ++ name_text name)
+seen_what (what.Scalar word name) = scalar (word.now ++ name_text name)
 seen_what (what.Cell of) = cell of
 seen_what (what.Entry heap of) = entry heap of
 seen_what (what.UserString token) = user_string token

@@ -3,7 +3,7 @@ ghost use Rattle.std.specs.Prelude.{◌≡◌, ◌≤◌, ◌+◌, ◌==◌, len
 ghost use Rattle.std.specs.List.{flat_map, range_with_len};
 ghost use Rattle.packed.specs.Rule.{AllHold};
 ghost use Rattle.root.specs.Fields.{before_nul};
-ghost use Rattle.pe.specs.Headers.{directory_offset, image_of, lfanew, section_count, sections_offset};
+ghost use Rattle.pe.specs.Headers.{directory_offset, image_of, section_count, sections_offset};
 ghost use Rattle.pe.specs.Rules.{rules_of_image};
 ghost use Rattle.cli_regions.specs.Files.{cli_regions, directories_offset, directories_regions, image_regions, named_regions, optional_fields, section_offset};
 ghost use Rattle.cli_regions.specs.Kept.{HasHeaders, Adds, part_regions};
@@ -116,20 +116,13 @@ fn find_part<'a>(file: &'a [u8], part: Part, index: usize, header: usize, found:
     }
 }
 
-/// Looks at a part of each section. The PE signature is at offset `signature`, and the first section header at offset `start`.
-fn find_sections<'a>(
-    file: &'a [u8],
-    part: Part,
-    signature: usize,
-    start: usize,
-    found: &mut Search<'a>,
-)
+/// Looks at a part of each of `count` sections. The first section header is at offset `start`.
+fn find_sections<'a>(file: &'a [u8], part: Part, count: usize, start: usize, found: &mut Search<'a>)
     requires headers { HasHeaders file.now }
-    requires signature { signature ≡ lfanew file.now }
+    requires count { count ≡ section_count file.now }
     requires start { start ≡ sections_offset file.now }
     ensures { Adds found.old found.new (flat_map (part_regions part file.now) (range_with_len 0 (section_count file.now))) }
 {
-    let count = u16_at(file, signature + SECTION_COUNT) as usize;
     for index in 0..count {
         let header = start + SECTION_HEADER_SIZE * index;
         find_part(file, part, index, header, found);
@@ -193,8 +186,9 @@ fn find_image<'a>(file: &'a [u8], cli_directory: usize, found: &mut Search<'a>)
 
     let sections = start + optional_size;
     find_directories(file, cli_directory - BEFORE_CLI_DIRECTORY, sections, found);
-    find_sections(file, Part::Header, signature, sections, found);
-    find_sections(file, Part::Bytes, signature, sections, found);
+    let count = u16_at(file, signature + SECTION_COUNT) as usize;
+    find_sections(file, Part::Header, count, sections, found);
+    find_sections(file, Part::Bytes, count, sections, found);
 }
 
 /// Looks at the PE headers, their fields, and the sections (II.25.2, II.25.3). Its time is linear in the number of sections.

@@ -1,6 +1,5 @@
 //! Looks at the headers and the streams of a metadata root, and at the fields and row counts of its table stream.
-ghost use Rattle.std.specs.Prelude.{◌≡◌, ◌≤◌, length};
-ghost use Rattle.std.specs.List.{All, flat_map};
+ghost use Rattle.std.specs.Prelude.{◌≡◌, ◌≤◌, All, flat_map, length};
 ghost use Rattle.packed.specs.Rule.{AllHold};
 ghost use Rattle.root.specs.Fields.{root_read};
 ghost use Rattle.root.specs.Rules.{rules_of_root};
@@ -87,18 +86,12 @@ fn find_stream_part<'a>(
 }
 
 /// Looks at a part of each stream of a root of `size` bytes.
-fn find_stream_parts<'a>(
-    headers: Headers<'a>,
-    part: Part,
-    start: u64,
-    size: u64,
-    found: &mut Search<'a>,
-)
+fn find_stream_parts<'a>(of: Headers<'a>, part: Part, start: u64, size: u64, found: &mut Search<'a>)
     requires start { start ≤ 0x40000000 }
-    requires small { All (λ header. header.place ≤ 0x40000000) headers }
-    ensures { Adds found.old found.new (flat_map (stream_part_regions part start size) headers.entry) }
+    requires small { All (λ header. header.place ≤ 0x40000000) of }
+    ensures { Adds found.old found.new (flat_map (stream_part_regions part start size) of.entry) }
 {
-    for header in headers {
+    for header in of {
         find_stream_part(&header, part, start, size, found);
     }
 }

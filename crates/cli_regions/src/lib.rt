@@ -18,4 +18,4 @@ mod searches;
 
 pub use files::{find_cli, find_pe};
 pub use headers::{find_root, find_table_stream};
-pub use searches::{Name, Search, Structure, What, Words, has_byte};
+pub use searches::{Name, Search, Structure, What, has_byte};

@@ -1,6 +1,6 @@
 //! Looks for the structures that contain a byte.
 ghost use Rattle.std.specs.Prelude.{◌≡◌, ◌∷◌, [], ◌++◌, IfOk, None, Some, map};
-ghost use Rattle.cli_regions.specs.Kept.{Adds, Joins, name_text, seen, seen_what, words_text};
+ghost use Rattle.cli_regions.specs.Kept.{Adds, Joins, name_text, seen, seen_what};
 ghost use Rattle.cli_regions.specs.Regions.{field_region, field_what, has_byte, region};
 
 use cli_faults::{Escaped, EscapedBytes};
@@ -41,30 +41,13 @@ impl fmt::Display for Name<'_> {
     }
 }
 
-/// A word and a name.
-#[derive(Clone, Copy)]
-pub struct Words<'a> {
-    /// The word.
-    pub word: &'static str,
-    /// The name.
-    pub name: Name<'a>,
-}
-
-impl fmt::Display for Words<'_> {
-    ghost output = { λ words. Some (words_text words) };
-
-    fn fmt<W: fmt::Write>(&self, f: &mut fmt::Formatter<W>) -> fmt::Result {
-        write!(f, "{}{}", self.word, self.name)
-    }
-}
-
 /// What a structure is.
 #[derive(Clone, Copy)]
 pub enum What<'a> {
-    /// A header, a field, a section or a stream.
-    Words(Words<'a>),
+    /// A header, a field, a section or a stream: a word and a name.
+    Words(&'static str, Name<'a>),
     /// A field of a header, or a row count, that is one number.
-    Scalar(Words<'a>),
+    Scalar(&'static str, Name<'a>),
     /// A cell (II.22).
     Cell(TableCell),
     /// The entry of a heap that a cell refers to (II.24.2.3 to II.24.2.5).
@@ -97,13 +80,13 @@ pub(crate) enum Part {
 const LONGEST_NUMBER: u64 = 4;
 
 /// What a field of a size is.
-fn field_what(words: Words<'_>, size: u64) -> What<'_>
-    ensures { seen_what result ≡ field_what size (words_text words.entry) }
+fn field_what<'a>(word: &'static str, name: Name<'a>, size: u64) -> What<'a>
+    ensures { seen_what result ≡ field_what size (word.now ++ name_text name.entry) }
 {
     if size <= LONGEST_NUMBER {
-        What::Scalar(words)
+        What::Scalar(word, name)
     } else {
-        What::Words(words)
+        What::Words(word, name)
     }
 }
 
@@ -184,22 +167,16 @@ impl<'a> Search<'a> {
     pub(crate) fn look(&mut self, start: u64, size: u64, word: &'static str, name: Name<'a>)
         ensures { Adds self.old self.new (region start size (word.now ++ name_text name.entry) ∷ []) }
     {
-        self.look_at(Structure {
-            start,
-            size,
-            what: What::Words(Words { word, name }),
-        });
+        let what = What::Words(word, name);
+        self.look_at(Structure { start, size, what });
     }
 
     /// Keeps a field with a word and a name if it contains the byte.
     pub(crate) fn look_field(&mut self, start: u64, size: u64, word: &'static str, name: Name<'a>)
         ensures { Adds self.old self.new (field_region start size (word.now ++ name_text name.entry) ∷ []) }
     {
-        self.look_at(Structure {
-            start,
-            size,
-            what: field_what(Words { word, name }, size),
-        });
+        let what = field_what(word, name, size);
+        self.look_at(Structure { start, size, what });
     }
 
     /// The structures that were found, in the order of the search.

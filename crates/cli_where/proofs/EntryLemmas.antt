@@ -1,21 +1,17 @@
 -- The entries of heaps: where they are, and which of them have a byte.
-use Rattle.cli_where.proofs.Prelude.{◌≡◌, ◌≢◌, ◌∙◌, ◌⊎◌, Option, None, Some, ℕ, ◌+◌, ◌-◌, ◌*◌, ◌<◌, ◌≤◌, true, List, ◌∷◌, ◌++◌, length, take, drop, slice_index, inl, inr, refl, sym, ap, subst, arith, length-append, length-drop, take-append-drop, get_or-drop, length-take-le, IsCounted, IsEnded, IsRun, IsRunAt, IsRunOf, Heap, has_byte, ◌%◌, [], append-nil, replicate, IsUserString, UserText, zero_padded, AreEntries, IsEntry, zero, suc, append_assoc, flat_map, range_with_len, flat_map_more, map-id, Finds, Joins, Searched, Region, joins_more, joins_none, AreEntriesAt, AreFirst, IsEntryOf, all_cells, FindsFirst, NameFirst, heaps_of, finds_joined, map-range_with_len_more}
+use Rattle.cli_where.proofs.Prelude.{◌≡◌, ◌≢◌, ◌∙◌, ◌⊎◌, ◌↔◌, Option, None, Some, ℕ, ◌+◌, ◌-◌, ◌<◌, ◌≤◌, true, List, ◌∷◌, ◌++◌, length, take, drop, slice_index, inl, inr, refl, sym, ap, subst, arith, length-drop, take-append-drop, get_or-drop, length-take-le, IsCounted, IsEnded, IsRun, IsRunAt, IsRunOf, Heap, has_byte, ◌%◌, [], append-nil, replicate, IsUserString, UserText, zero_padded, IsEntry, zero, suc, append_assoc, Finds, Joins, Searched, Region, joins_more, joins_none, AreEntriesAt, AreFirst, IsEntryOf, all_cells, FindsFirst, NameFirst, heaps_of, finds_joined}
 use Rattle.std.proofs.lemmas.Bool.Decides.{nat_tests}
 use Rattle.packed.specs.Packed.{IsPacked}
 use Rattle.heap_entries.proofs.BlobLemmas.{blob_counted}
 use Rattle.heap_entries.proofs.TextLemmas.{ended_from, ended_length, none_in}
 use Rattle.heap_entries.proofs.WholeLemmas.{nul_stands}
-use Rattle.cli_where.specs.declared.entries.Run.{Run}
 use Rattle.rows.specs.Cells.{Stream}
 use Rattle.schema.specs.declared.located_cells.TableCell.{TableCell}
 use Rattle.cli_where.specs.declared.entries.Target.{Target}
 
 -- a structure has a byte if and only if the byte is from its first one on and before its end
-pub has_from : (start size offset : ℕ) → has_byte start size offset ≡ true → (start ≤ offset) × (offset < start + size)
-has_from start size offset has = (grind (arith, nat_tests), grind (arith, nat_tests))
-
-pub has_so : (start size offset : ℕ) → start ≤ offset → offset < start + size → has_byte start size offset ≡ true
-has_so start size offset from before = grind (arith, nat_tests)
+pub has_is : (start size offset : ℕ) → (has_byte start size offset ≡ true) ↔ ((start ≤ offset) × (offset < start + size))
+has_is start size offset = (λ has. (grind (arith, nat_tests), grind (arith, nat_tests)), λ within. grind (arith, nat_tests))
 
 no_nul_in : (heap : List ℕ) (index : ℕ) (bytes : List ℕ) → IsEnded heap index bytes → (k : ℕ) → index ≤ k → k < index + length bytes → slice_index heap k ≢ 0
 no_nul_in heap index bytes e k from h z =
@@ -62,7 +58,7 @@ module _ (heap : Heap) (offset : ℕ) where
   -- a byte before a heap, or after its end, is none of its strings
   pub outside : (offset < heap.start) ⊎ (heap.start + length heap.bytes ≤ offset) → IsRunOf heap offset None
   outside out index start size is has =
-      let range = has_from start size offset has in
+      let range = (has_is start size offset).0 has in
       let within = ended_length heap.bytes index is.text is.stands in
       let at = is.from in
       let long = is.long in
@@ -71,9 +67,9 @@ module _ (heap : Heap) (offset : ℕ) where
         | inr high ↦ omega (arith, range.1, high, at, long, within)
       ]
 
-  pub run_is : (byte : ℕ) → offset ≡ heap.start + byte → (run : Option Run) → IsRunAt heap.bytes byte run → IsRunOf heap offset run
+  pub run_is : (byte : ℕ) → offset ≡ heap.start + byte → (run : Option (ℕ × ℕ)) → IsRunAt heap.bytes byte run → IsRunOf heap offset run
   run_is byte at None none = λ index start size is has.
-      let range = has_from start size offset has in
+      let range = (has_is start size offset).0 has in
       let from = is.from in
       let long = is.long in
       let within = ended_length heap.bytes index is.text is.stands in
@@ -96,13 +92,6 @@ entry_is heap index read size string some same user long =
 pub user_is : (heap : List ℕ) (index read : ℕ) (string : UserText) (next : ℕ) → 1 ≤ index → read ≡ index → IsEntry heap index string next → IsUserString heap read string
 user_is heap index read string next some same e =
     subst (λ (n : ℕ). IsUserString heap n string) (sym same) (record { blob = e.blob; stands = inr (some, e.stands); encodes = e.encodes })
-
--- no entry begins after the heap
-pub no_entry_past : (heap : List ℕ) (index : ℕ) → length heap < index → AreEntries heap index []
-no_entry_past heap index past = inr (λ string next e.
-    let whole = simp length-append at (ap length e.stands.whole) in
-    let at = e.stands.at in
-    absurd (omega (arith, whole, at, past)))
 
 module _ (IsOf : TableCell → Option Region → Type 0) where
   none_first : (most : ℕ) (cell : TableCell) (cells : List TableCell) (found : List Region) → IsOf cell None → AreFirst IsOf most cells found → AreFirst IsOf most (cell ∷ cells) found
@@ -144,10 +133,3 @@ module _ {target : Target} {stream : Stream} where
   finds_all {left} {old} {new} same finds =
       let all = finds.first [] [] (no_cells (IsEntryOf (heaps_of target) stream.bytes stream.sizes target.offset) left) in
       finds_joined {AreFound = AreEntriesAt (heaps_of target) stream.bytes stream.sizes} (rw same at (simp append-nil at all)) finds.joins
-
--- the cells of one more row
-pub rows_more : {X : Type 0} (f : ℕ → List X) (row : ℕ) → 1 ≤ row → flat_map f (range_with_len 1 (row - 1)) ++ f row ≡ flat_map f (range_with_len 1 (row + 1 - 1))
-rows_more f row some =
-    let next : row - 1 + 1 ≡ row + 1 - 1 = omega (arith, some) in
-    let more = simp map-id at (map-range_with_len_more (λ (k : ℕ). k) 1 (row - 1) row (omega (arith, some))) in
-    flat_map_more f [] (range_with_len 1 (row - 1)) row ∙ ap (flat_map f) (sym more ∙ ap (range_with_len 1) next)

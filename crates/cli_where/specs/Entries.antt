@@ -1,7 +1,6 @@
 -- The heap entries that have a byte, and the cells that name them (ECMA-335 II.22 and II.24.2.3 to II.24.2.5).
-use Rattle.std.specs.Prelude.{◌≡◌, ℕ, zero, suc, ◌+◌, ◌-◌, ◌*◌, ◌<◌, ◌⊎◌, true, List, [], ◌∷◌, length, map, Option, None, Some, unwrap_or}
+use Rattle.std.specs.Prelude.{◌≡◌, ℕ, zero, suc, ◌+◌, ◌-◌, ◌*◌, ◌<◌, ◌⊎◌, true, List, [], ◌∷◌, length, map, Option, None, Some, option_map, unwrap_or}
 use Rattle.std.specs.List.{flat_map, range_with_len}
-use Rattle.std.specs.Option.{option_map}
 use Rattle.cli_where.specs.Words.{Kind, Strings, Guids, Blobs, RootRead, range_of, stream_of, IsCounted, IsEnded, IsGuidEntry, TableId, tables, columns_of, Sizes, count_of, number_at, TableCell, Region, entry, has_byte, kind_of}
 use Rattle.table_schema.specs.declared.column.ColumnKind.{ColumnKind}
 use Rattle.table_schema.specs.declared.column.ColumnKind.TheVariants as kind

@@ -1,7 +1,6 @@
 -- What a program keeps of the heaps while it looks for the entries that have a byte.
 use Rattle.std.specs.Prelude.{◌≡◌, ◌≢◌, ℕ, ◌+◌, ◌-◌, ◌<◌, ◌≤◌, List, ◌++◌, length, true, Option, None, Some, slice_index}
 use Rattle.cli_where.specs.declared.entries.Heap.{Heap as KeptHeap}
-use Rattle.cli_where.specs.declared.entries.Run.{Run}
 use Rattle.cli_where.specs.declared.entries.Target.{Target}
 use Rattle.cli_where.specs.Words.{TableCell, Stream, Joins, Searched, Region, has_byte}
 use Rattle.cli_where.specs.Entries.{AreFirst, Heap, Heaps, IsEntryOf, IsStringAt}
@@ -23,14 +22,14 @@ pub record IsRun (heap : List ℕ) (byte first ends : ℕ) : Type 0 where
   pub follows : 0 < first → slice_index heap (first - 1) ≡ 0
 
 -- the run that has a byte; or no byte from it on is a NUL
-abbrev pub IsRunAt : List ℕ → ℕ → Option Run → Type 0
+abbrev pub IsRunAt : List ℕ → ℕ → Option (ℕ × ℕ) → Type 0
 IsRunAt heap byte None = (k : ℕ) → byte ≤ k → k < length heap → slice_index heap k ≢ 0
-IsRunAt heap byte (Some run) = IsRun heap byte run.first run.«end»
+IsRunAt heap byte (Some run) = IsRun heap byte run.0 run.1
 
 -- the run that has the byte at an offset of the file; or no string of the heap has this byte
-abbrev pub IsRunOf : Heap → ℕ → Option Run → Type 0
+abbrev pub IsRunOf : Heap → ℕ → Option (ℕ × ℕ) → Type 0
 IsRunOf heap offset None = (index start size : ℕ) → IsStringAt heap index start size → has_byte start size offset ≡ true → ⊥
-IsRunOf heap offset (Some run) = (byte : ℕ) × (offset ≡ heap.start + byte) × IsRun heap.bytes byte run.first run.«end»
+IsRunOf heap offset (Some run) = (byte : ℕ) × (offset ≡ heap.start + byte) × IsRun heap.bytes byte run.0 run.1
 
 -- the offset and the size of a heap are those of a stream
 pub record IsLow (heap : KeptHeap) : Type 0 where

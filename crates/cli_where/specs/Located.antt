@@ -1,6 +1,5 @@
 -- What `clim where` and `clim strings` print.
-use Rattle.std.specs.Prelude.{◌≡◌, ℕ, ◌⊎◌, List, [], ◌∷◌, ◌++◌, codes, map, Result, Ok, Err}
-use Rattle.std.specs.List.{flat_map}
+use Rattle.std.specs.Prelude.{◌≡◌, ℕ, ◌⊎◌, List, [], ◌∷◌, ◌++◌, codes, flat_map, map, Result, Ok, Err}
 use Rattle.packed.specs.declared.fault.Fault.{Fault as TheFault}
 use Rattle.cli_where.specs.Words.{FirstBroken, Metadata, IsModelOfFile, IsModelOf, IsWhole, rules_of, Input, BareRoot, File, Part, word, Printed, Prints, Region}
 use Rattle.cli_faults.specs.declared.failure.Failure.{Failure}

@@ -5,9 +5,9 @@ pub use Rattle.cli_files.specs.declared.opened.Input.TheVariants.{BareRoot, File
 pub use Rattle.cli_found.specs.Found.{kind_of, column_number}
 pub use Rattle.cli_lines.specs.Lines.{Part, byte, field, hex, member, note, number, plain, units, word}
 pub use Rattle.cli_lines.specs.Printed.{Printed, Prints, Completes}
-pub use Rattle.cli_regions.specs.Kept.{Joins, Searched, Finds, seen, words_text, Adds}
+pub use Rattle.cli_regions.specs.Kept.{Joins, Searched, Finds, seen, name_text, Adds}
 pub use Rattle.cli_regions.specs.Regions.{Region, entry, has_byte, What, cell, scalar, user_string, words, regions_at}
-pub use Rattle.heap_entries.specs.Entries.{IsCounted, IsEnded, IsGuidEntry, UserText, EncodesUserText, IsBlob, IsUserString}
+pub use Rattle.heap_entries.specs.Entries.{IsCounted, IsEnded, IsGuidEntry, UserText, EncodesUserText, IsUserString}
 pub use Rattle.heap_entries.specs.Padding.{zero_padded}
 pub use Rattle.metadata.specs.Metadata.{Metadata}
 pub use Rattle.metadata.specs.Model.{IsModelOfFile, IsModel}

@@ -1,7 +1,6 @@
 //! The heap entries that have a byte (II.24.2.3 to II.24.2.5), by the cells that refer to them.
-ghost use Rattle.std.specs.Prelude.{◌≡◌, ◌≤◌, ◌<◌, ◌+◌, ℕ, List, [], IfSome, IfNone, IsSomeAnd, length, true, unwrap_or, ◌∷◌};
-ghost use Rattle.std.specs.Option.{option_map};
-ghost use Rattle.cli_where.specs.Words.{IsCounted, range_of, stream_of, has_byte, columns_of, count_of, Finds};
+ghost use Rattle.std.specs.Prelude.{◌≡◌, ◌≤◌, ◌<◌, ◌+◌, ℕ, List, [], IfSome, IfNone, IsSomeAnd, length, true, ◌∷◌};
+ghost use Rattle.cli_where.specs.Words.{IsCounted, has_byte, columns_of, count_of, Finds};
 ghost use Rattle.cli_where.specs.Entries.{IsBlobAt, IsGuidAt, IsNamed, IsStringAt, heap_at, heap_named, AreEntriesAt};
 ghost use Rattle.cli_where.specs.Kept.{AreReady, IsLow, IsRunAt, IsRunOf, heap_of, heaps_of, FindsFirst};
 
@@ -26,15 +25,6 @@ pub(crate) struct Heap<'a> {
     pub start: u64,
 }
 
-/// The bytes around a byte of `#Strings` up to a NUL, of which only the last one is a NUL.
-#[derive(Clone, Copy)]
-pub(crate) struct Run {
-    /// The offset of the first byte in the heap.
-    pub first: usize,
-    /// The offset of the NUL in the heap.
-    pub end: usize,
-}
-
 /// A byte, and the heaps that may have it.
 #[derive(Clone, Copy)]
 pub(crate) struct Target<'a> {
@@ -42,37 +32,12 @@ pub(crate) struct Target<'a> {
     pub offset: u64,
     /// `#Strings`.
     pub texts: Heap<'a>,
-    /// The run of the byte, if it is one of `#Strings`.
-    pub run: Option<Run>,
+    /// The run of the byte, if it is one of `#Strings`: the offsets of its first byte and of its NUL in the heap.
+    pub run: Option<(usize, usize)>,
     /// `#GUID`.
     pub guids: Heap<'a>,
     /// `#Blob`.
     pub blobs: Heap<'a>,
-}
-
-/// Where an entry is in the file.
-#[derive(Clone, Copy)]
-struct Span {
-    /// The offset of its first byte.
-    pub start: u64,
-    /// Its number of bytes.
-    pub size: u64,
-}
-
-/// A stream of a root; no bytes if no header refers to it.
-fn stream_in<'a>(root: &Root<'a>, kind: Kind) -> &'a [u8]
-    ensures stream { result.now ≡ unwrap_or (stream_of root.now kind) [] }
-    ensures within { length result.now ≤ length root.now.bytes }
-{
-    root.stream(kind).unwrap_or(&[])
-}
-
-/// The offset of a stream in a root; 0 if no header refers to it.
-fn stream_offset(root: &Root, kind: Kind) -> usize
-    ensures offset { result ≡ unwrap_or (option_map (λ range. range.0) (range_of root.now kind)) 0 }
-    ensures within { result ≤ length root.now.bytes }
-{
-    root.stream_place(kind).map_or(0, |range| range.start)
 }
 
 /// A stream of a root that is at offset `start` of the file. It has no bytes if no header refers to it.
@@ -82,14 +47,15 @@ pub(crate) fn heap_in<'a>(root: &Root<'a>, kind: Kind, start: u64) -> Heap<'a>
     ensures heap { heap_of result ≡ heap_at start root.now kind }
     ensures low { IsLow result }
 {
-    Heap {
-        bytes: stream_in(root, kind),
-        start: start + stream_offset(root, kind) as u64,
-    }
+    let bytes = root.stream(kind).unwrap_or(&[]);
+    let before = root.stream_place(kind).map_or(0, |range| range.start);
+    let start = start + before as u64;
+    Heap { bytes, start }
 }
 
-/// The run of a byte of `#Strings`; `None` if no NUL is at the byte or after it.
-fn run_at(heap: &[u8], byte: usize) -> Option<Run>
+/// The run of a byte of `#Strings`: the bytes around it up to a NUL, of which only the last one is a NUL. It is the offsets of the
+/// first byte and of the NUL; `None` if no NUL is at the byte or after it.
+fn run_at(heap: &[u8], byte: usize) -> Option<(usize, usize)>
     requires { byte < length heap.now }
     ensures { IsRunAt heap.now byte result }
 {
@@ -99,14 +65,11 @@ fn run_at(heap: &[u8], byte: usize) -> Option<Run>
         None => 0,
     };
     let len = memchr(0, tail)?;
-    Some(Run {
-        first,
-        end: byte + len,
-    })
+    Some((first, byte + len))
 }
 
 /// The run of the byte at an offset of the file, if it is one of `#Strings`.
-pub(crate) fn run_of(texts: Heap<'_>, offset: u64) -> Option<Run>
+pub(crate) fn run_of(texts: Heap<'_>, offset: u64) -> Option<(usize, usize)>
     requires { IsLow texts }
     ensures { IsRunOf (heap_of texts.entry) offset result }
 {
@@ -117,27 +80,24 @@ pub(crate) fn run_of(texts: Heap<'_>, offset: u64) -> Option<Run>
     run_at(texts.bytes, byte as usize)
 }
 
-/// The string at an index if it has the byte.
-fn string_at(target: &Target<'_>, index: u32) -> Option<Span>
+/// The offset and the size of the string at an index if it has the byte.
+fn string_at(target: &Target<'_>, index: u32) -> Option<(u64, u64)>
     requires { AreReady target.now }
-    ensures sound { IfSome result (λ span. IsStringAt (heap_of target.now.texts) index span.start span.size × (has_byte span.start span.size target.now.offset ≡ true)) }
+    ensures sound { IfSome result (λ span. IsStringAt (heap_of target.now.texts) index span.0 span.1 × (has_byte span.0 span.1 target.now.offset ≡ true)) }
     ensures none { IfNone result ((start size : ℕ) → IsStringAt (heap_of target.now.texts) index start size → has_byte start size target.now.offset ≡ true → ⊥) }
 {
-    let run = target.run?;
+    let (first, nul) = target.run?;
     let start = target.texts.start + u64::from(index);
-    if index == 0 || (index as usize) < run.first || target.offset < start {
+    if index == 0 || (index as usize) < first || target.offset < start {
         return None;
     }
-    Some(Span {
-        start,
-        size: (run.end - index as usize) as u64 + 1,
-    })
+    Some((start, (nul - index as usize) as u64 + 1))
 }
 
-/// The GUID with an index if it has the byte.
-fn guid_at(target: &Target<'_>, index: u32) -> Option<Span>
+/// The offset and the size of the GUID with an index if it has the byte.
+fn guid_at(target: &Target<'_>, index: u32) -> Option<(u64, u64)>
     requires { AreReady target.now }
-    ensures sound { IfSome result (λ span. IsGuidAt (heap_of target.now.guids) index span.start span.size × (has_byte span.start span.size target.now.offset ≡ true)) }
+    ensures sound { IfSome result (λ span. IsGuidAt (heap_of target.now.guids) index span.0 span.1 × (has_byte span.0 span.1 target.now.offset ≡ true)) }
     ensures none { IfNone result ((start size : ℕ) → IsGuidAt (heap_of target.now.guids) index start size → has_byte start size target.now.offset ≡ true → ⊥) }
 {
     let before = GUID_SIZE * u64::from(index.checked_sub(1)?);
@@ -147,10 +107,7 @@ fn guid_at(target: &Target<'_>, index: u32) -> Option<Span>
     {
         return None;
     }
-    Some(Span {
-        start,
-        size: GUID_SIZE,
-    })
+    Some((start, GUID_SIZE))
 }
 
 /// The number of bytes of the blob at an offset of its heap, those of its packed length included.
@@ -173,10 +130,10 @@ pub(crate) fn blob_size(heap: &[u8], start: usize) -> Option<usize>
     Some(used + count as usize)
 }
 
-/// The blob at an index if it has the byte.
-fn blob_at(target: &Target<'_>, index: u32) -> Option<Span>
+/// The offset and the size of the blob at an index if it has the byte.
+fn blob_at(target: &Target<'_>, index: u32) -> Option<(u64, u64)>
     requires { AreReady target.now }
-    ensures sound { IfSome result (λ span. IsBlobAt (heap_of target.now.blobs) index span.start span.size × (has_byte span.start span.size target.now.offset ≡ true)) }
+    ensures sound { IfSome result (λ span. IsBlobAt (heap_of target.now.blobs) index span.0 span.1 × (has_byte span.0 span.1 target.now.offset ≡ true)) }
     ensures none { IfNone result ((start size : ℕ) → IsBlobAt (heap_of target.now.blobs) index start size → has_byte start size target.now.offset ≡ true → ⊥) }
 {
     if index == 0 {
@@ -187,13 +144,13 @@ fn blob_at(target: &Target<'_>, index: u32) -> Option<Span>
     if !has_byte(start, size, target.offset) {
         return None;
     }
-    Some(Span { start, size })
+    Some((start, size))
 }
 
-/// The entry that an index in a column of a kind names, if it has the byte. It takes constant time.
-fn entry_at(target: &Target<'_>, kind: ColumnKind, index: u32) -> Option<Span>
+/// The offset and the size of the entry that an index in a column of a kind names, if it has the byte. It takes constant time.
+fn entry_at(target: &Target<'_>, kind: ColumnKind, index: u32) -> Option<(u64, u64)>
     requires { AreReady target.now }
-    ensures sound { IfSome result (λ span. IsNamed (heaps_of target.now) kind index span.start span.size × (has_byte span.start span.size target.now.offset ≡ true)) }
+    ensures sound { IfSome result (λ span. IsNamed (heaps_of target.now) kind index span.0 span.1 × (has_byte span.0 span.1 target.now.offset ≡ true)) }
     ensures none { IfNone result ((start size : ℕ) → IsNamed (heaps_of target.now) kind index start size → has_byte start size target.now.offset ≡ true → ⊥) }
 {
     match kind {
@@ -238,12 +195,9 @@ fn find_named(
     }
     let kind = kind_of(cell);
     match entry_at(target, kind, rows.number(cell.table, cell.row, cell.column)) {
-        Some(span) => {
-            found.keep(Structure {
-                start: span.start,
-                size: span.size,
-                what: What::Entry(heap_named(kind), cell),
-            });
+        Some((start, size)) => {
+            let what = What::Entry(heap_named(kind), cell);
+            found.keep(Structure { start, size, what });
             most - 1
         }
         None => most,
@@ -260,7 +214,8 @@ pub(crate) fn find_entries(rows: &Rows<'_>, target: &Target<'_>, found: &mut Sea
     let mut left = MOST_CELLS;
     for of in tables {
         let table = *of;
-        for row in 1..rows.layout().count(table) + 1 {
+        for before in 0..rows.layout().count(table) {
+            let row = before + 1;
             for column in 0..columns(table).len() {
                 let cell = TableCell { table, row, column };
                 left = find_named(rows, target, cell, left, found);

@@ -1,6 +1,6 @@
 //! Prints the lines of structures.
-ghost use Rattle.std.specs.Prelude.{◌≡◌, ◌∷◌, [], map};
-ghost use Rattle.cli_where.specs.Words.{Prints, seen, words_text, is_padding, kind_of};
+ghost use Rattle.std.specs.Prelude.{◌≡◌, ◌∷◌, ◌++◌, [], map};
+ghost use Rattle.cli_where.specs.Words.{Prints, seen, name_text, is_padding, kind_of};
 ghost use Rattle.cli_regions.specs.Regions.{cell as a_cell, words as some_words};
 ghost use Rattle.cli_where.specs.Lines.{column_name, entry_word, line_with, structure_line, what_parts};
 
@@ -8,7 +8,7 @@ use cli_found::{column_number, kind_of};
 use cli_lines::Part::{Field, Member, Note, Word};
 use cli_lines::Value::{Byte, Hex, Number, Plain};
 use cli_lines::{Name, Printer};
-use cli_regions::{Structure, What, Words};
+use cli_regions::{Name as RegionName, Structure, What};
 use root::Kind;
 use schema::{TableCell, column_names};
 use std::alloc::Global;
@@ -44,10 +44,9 @@ macro_rules! line {
 fn column_name(cell: TableCell) -> &'static str
     ensures { result.now ≡ column_name cell }
 {
-    match column_names(cell.table).get(cell.column) {
-        Some(name) => name,
-        None => "",
-    }
+    column_names(cell.table)
+        .get(cell.column)
+        .map_or("", |name| *name)
 }
 
 /// Whether a cell is the padding of its row (II.22.9).
@@ -72,12 +71,13 @@ fn entry_word(heap: Kind) -> &'static str
 fn print_words<W: Write>(
     alloc: Global,
     of: Structure<'_>,
-    words: Words<'_>,
+    word: &'static str,
+    name: RegionName<'_>,
     out: &mut Printer<'_, W>,
 )
-    ensures { Prints out.old out.new (line_with of.entry.start of.entry.size (what_parts (some_words (words_text words.entry))) ∷ []) }
+    ensures { Prints out.old out.new (line_with of.entry.start of.entry.size (what_parts (some_words (word.now ++ name_text name.entry))) ∷ []) }
 {
-    match words.to_string(alloc) {
+    match format!(in alloc; "{word}{name}") {
         Ok(text) => out.line(line![of; Field(Name::Structure, Plain(&text));]),
         Err(_) => out.fail(),
     }
@@ -101,7 +101,9 @@ fn print_structure<W: Write>(alloc: Global, of: Structure<'_>, out: &mut Printer
     ensures { Prints out.old out.new (structure_line (seen of.entry) ∷ []) }
 {
     match of.what {
-        What::Words(words) | What::Scalar(words) => print_words(alloc, of, words, out),
+        What::Words(word, name) | What::Scalar(word, name) => {
+            print_words(alloc, of, word, name, out)
+        }
         What::Cell(cell) => print_cell(of, cell, out),
         What::Entry(heap, cell) => out.line(line![
             of; Field(Name::Structure, Plain(entry_word(heap)));
@@ -121,15 +123,11 @@ fn print_structure<W: Write>(alloc: Global, of: Structure<'_>, out: &mut Printer
 /// Constant has the structure `padding`, and no column (II.22.9). An entry has the
 /// structure `string`, `guid` or `blob`, its `stream`, and the members of the cell that refers to it; a user string its
 /// `stream` and its `token`. Any other structure is what its line of text says.
-pub fn print_structures<W: Write>(
-    alloc: Global,
-    structures: &[Structure<'_>],
-    out: &mut Printer<'_, W>,
-)
-    ensures { Prints out.old out.new (map structure_line (map seen structures.now)) }
+pub fn print_structures<W: Write>(alloc: Global, of: &[Structure<'_>], out: &mut Printer<'_, W>)
+    ensures { Prints out.old out.new (map structure_line (map seen of.now)) }
 {
     cli_lines::laws::reports_are_completed::<W>();
-    for structure in structures {
+    for structure in of {
         print_structure(alloc, *structure, out);
     }
 }

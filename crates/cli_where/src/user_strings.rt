@@ -23,32 +23,20 @@ const USER_STRINGS: u32 = 0x7000_0000;
 /// The first offset that is no longer part of a token: the high byte says what the token refers to.
 const PAST_TOKENS: usize = 1 << 24;
 
-/// A user string of a heap.
-#[derive(Drop)]
-struct UserEntry<'a> {
-    /// What it is.
-    pub string: UserString<'a>,
-    /// The offset after its last byte.
-    pub next: usize,
-}
-
-/// The user string at an offset; `None` if there is none, or the offset is not one of a token.
-fn user_entry(heap: &[u8], index: usize) -> Option<UserEntry<'_>>
+/// The user string at an offset, and the offset after its last byte; `None` if there is none, or the offset is not one of a token.
+fn user_entry(heap: &[u8], index: usize) -> Option<(UserString<'_>, usize)>
     requires { 1 ≤ index }
     ensures token { IfSome result (λ entry. index < 2 ^ 24) }
-    ensures sound { IfSome result (λ entry. IsEntry heap.now index entry.string entry.next) }
+    ensures sound { IfSome result (λ entry. IsEntry heap.now index entry.0 entry.1) }
     ensures none { IfNone result (AreEntries heap.now index []) }
-    ensures later { IfSome result (λ entry. index < entry.next) }
+    ensures later { IfSome result (λ entry. index < entry.1) }
 {
     if index >= PAST_TOKENS {
         return None;
     }
     let size = blob_size(heap, index)?;
     match user_string(heap, index as u32) {
-        Ok(string) => Some(UserEntry {
-            string,
-            next: index + size,
-        }),
+        Ok(string) => Some((string, index + size)),
         Err(_) => None,
     }
 }
@@ -60,8 +48,7 @@ pub(crate) fn find_user_strings(alloc: Global, heap: &Heap<'_>, found: &mut Sear
     ensures { Finds (AreUsersAt (heap_of heap.now)) found.old found.new }
 {
     if heap.bytes.len() % 4 == 0 {
-        find_in_padded(heap, heap.bytes, found);
-        return;
+        return find_in_padded(heap, heap.bytes, found);
     }
     match copy_padded(alloc, heap.bytes) {
         Ok(padded) => find_in_padded(heap, &padded, found),
@@ -75,17 +62,12 @@ fn find_in_padded(heap: &Heap<'_>, padded: &[u8], found: &mut Search<'_>)
     ensures { (entries : List Entry) × AreEntries padded.now 1 entries × Adds found.old found.new (map (user_region (heap_of heap.now)) entries) }
 {
     let mut index = 1;
-    for _turn in 0..padded.len() {
-        let Some(entry) = user_entry(padded, index) else {
-            return;
-        };
-        let end = entry.next.min(heap.bytes.len());
-        found.look_at(Structure {
-            start: heap.start + index as u64,
-            size: end.saturating_sub(index) as u64,
-            what: What::UserString(USER_STRINGS + index as u32),
-        });
-        index = entry.next;
+    while let Some((_string, next)) = user_entry(padded, index) {
+        let end = next.min(heap.bytes.len());
+        let (start, size) = (heap.start + index as u64, end.saturating_sub(index) as u64);
+        let what = What::UserString(USER_STRINGS + index as u32);
+        found.look_at(Structure { start, size, what });
+        index = next;
     }
 }
 
@@ -117,12 +99,9 @@ fn print_entries<W: Write>(heap: &[u8], out: &mut Printer<'_, W>)
 {
     cli_lines::laws::lines_follow::<W>();
     let mut index = 1;
-    for _turn in 0..heap.len() {
-        let Some(entry) = user_entry(heap, index) else {
-            return;
-        };
-        print_entry(index as u32, &entry.string, out);
-        index = entry.next;
+    while let Some((string, next)) = user_entry(heap, index) {
+        print_entry(index as u32, &string, out);
+        index = next;
     }
 }
 

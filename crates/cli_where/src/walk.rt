@@ -35,11 +35,10 @@ pub(crate) fn find_cell(layout: &Layout, start: u64, found: &mut Search<'_>)
         return;
     }
     if let Some(cell) = cell_at(layout, (offset - start) as usize) {
-        found.keep(Structure {
-            start: start + layout.cell_start(cell.table, cell.row, cell.column) as u64,
-            size: layout.cell_width(cell.table, cell.column) as u64,
-            what: What::Cell(cell),
-        });
+        let start = start + layout.cell_start(cell.table, cell.row, cell.column) as u64;
+        let size = layout.cell_width(cell.table, cell.column) as u64;
+        let what = What::Cell(cell);
+        found.keep(Structure { start, size, what });
     }
 }
 

@@ -1,6 +1,7 @@
 use Rattle.cli_declarations.proofs.Prelude.{append_assoc}
 use Rattle.custom_attributes.specs.Texts.{value_text}
-use Rattle.cli_declarations.proofs.PieceLemmas.{cut, was_ok}
+use Rattle.cli_declarations.proofs.PieceLemmas.{was_ok}
+use Rattle.cli_declarations.proofs.TextLemmas.{cut}
 use Rattle.cli_declarations.proofs.blob_sink.push_decoded.Goals as goal
 
 pub returns : goal.returns

@@ -2,7 +2,8 @@ use Rattle.cli_declarations.proofs.Prelude.{string_bytes, ◌++◌, [], append-n
 use Rattle.full_names.specs.declared.limit.Scopes.TheVariants.{Written}
 use Rattle.type_heads.specs.Heads.{IsInHead}
 use Rattle.type_heads.proofs.HeadLemmas.{enclosed_none, enclosed_some, is_none, is_some, listed_none}
-use Rattle.cli_declarations.proofs.PieceLemmas.{cut, on_ok, was_ok}
+use Rattle.cli_declarations.proofs.PieceLemmas.{on_ok, was_ok}
+use Rattle.cli_declarations.proofs.TextLemmas.{cut}
 use Rattle.cli_declarations.proofs.linked.push_listed.Goals as goal
 
 pub returns-then-is_empty : goal.returns-then-is_empty

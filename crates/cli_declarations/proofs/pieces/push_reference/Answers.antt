@@ -1,4 +1,4 @@
-use Rattle.cli_declarations.proofs.Prelude.{◌≡◌, true, List, ℕ, refl, rules, TableId, Param, Token, Metadata, IsReferenceIn, IsReferred, has_reference, string_bytes, subst, sym, Gains}
+use Rattle.cli_declarations.proofs.Prelude.{◌≡◌, true, List, ℕ, refl, rules, TableId, Param, Token, Metadata, IsReferenceIn, IsReferred, has_reference, subst, sym, Gains}
 use Rattle.cli_declarations.proofs.PieceLemmas.{on_ok}
 use Rattle.cli_declarations.proofs.pieces.push_reference.Goals as goal
 
@@ -9,7 +9,7 @@ other_table model _ token out not of = of
 pub returns-in-Param : goal.returns-in-Param
 returns-in-Param c = λ model is.
     on_ok c.push_param.result (c.push_param.ensures model is)
-    (λ gains. subst (λ (t : TableId). Gains (IsReferenceIn model t c.args.token) (string_bytes c.args.declared.now.text) (string_bytes c.push_param.new.declared.text)) (sym c.in-Param.is) gains)
+    (λ gains. subst (λ (t : TableId). Gains (IsReferenceIn model t c.args.token) c.args.declared.now c.push_param.new.declared) (sym c.in-Param.is) gains)
 
 pub returns-in_default : goal.returns-in_default
 returns-in_default c = λ model is.

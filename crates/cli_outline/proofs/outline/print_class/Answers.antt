@@ -1,12 +1,11 @@
 use Rattle.cli_outline.proofs.Prelude.{class_rows}
-use Rattle.cli_outline.proofs.PrintedLemmas.{rows_more}
+use Rattle.cli_outline.proofs.ChosenLemmas.{chosen_more}
 use Rattle.cli_outline.proofs.outline.print_class.Goals as goal
 
 pub returns-clause-lines : goal.returns-clause-lines
 unfolding class_rows
 returns-clause-lines g c = λ model is.
-    let more = rows_more c.args.source.now.options model c.lines_follow.ensures.more in
-    more _ _ _ _ _ (c.print_row.ensures model is)
-    (more _ _ _ _ _ (c.print_members.ensures.lines model is)
-    (more _ _ _ _ _ (c.print_members-2.ensures.lines model is)
-    (more _ _ _ _ _ (c.print_mapped.ensures.lines model is) (c.print_mapped-2.ensures.lines model is))))
+    chosen_more (c.print_row.ensures model is)
+    (chosen_more (c.print_members.ensures.lines model is)
+    (chosen_more (c.print_members-2.ensures.lines model is)
+    (chosen_more (c.print_mapped.ensures.lines model is) (c.print_mapped-2.ensures.lines model is))))

@@ -1,23 +1,14 @@
-use Rattle.cli_outline.proofs.Prelude.{◌∙◌, ◌+◌, drop, drop_all, drop_more, map, flat_map, TypeDef, order_in, mapped_rows, type_rows, token_at}
-use Rattle.navigation.specs.Keyed.{row_of}
-use Rattle.cli_outline.proofs.PrintedLemmas.{rows_more, rows_nothing}
+use Rattle.cli_outline.proofs.Prelude.{◌∙◌, flat_map-map, TypeDef, KeyedRow, members, order_in, token_at, type_rows}
+use Rattle.cli_outline.proofs.ChosenLemmas.{item_printed, items_printed}
 use Rattle.cli_outline.proofs.outline.print_mapped.Goals as goal
 
 pub loop-map-preserved : goal.loop-map-preserved
 loop-map-preserved g c = record {
-  same = c.print_map.ensures.same ∙ c.loop-map.invariant.same;
-  lines = λ model later is printed.
-      let rows = mapped_rows (order_in c.args.source.now.orders.items) model c.args.list in
-      let maps = c.linked-maps.result.now in
-      let index = c.loop-map.map-index in
-      c.loop-map.invariant.lines model later is
-      (rw (drop_more maps index (record { key = 0; row = 0 }) c.loop-map-test.true)
-      (rows_more c.args.source.now.options model c.lines_follow.ensures.more _ _ _ _ (flat_map rows (map row_of (drop (index + 1) maps))) (c.print_map.ensures.lines model is) printed));
+  same = c.print_members.ensures.same ∙ c.loop-map.invariant.same;
+  lines = λ model is. item_printed (λ (map : KeyedRow). members (order_in c.args.source.now.orders.items) model c.args.list map.row) c.linked-maps.result.now c.loop-map.map-index (record { key = 0; row = 0 }) c.loop-map-test.true (c.loop-map.invariant.lines model is) (c.print_members.ensures.lines model is);
 }
 
 pub returns-clause-lines : goal.returns-clause-lines
 unfolding type_rows
 returns-clause-lines g c = λ model is.
-    let loop = c.loop-map in
-    rw (← c.linked-maps.ensures.rows model is (token_at TypeDef c.args.class) c.requires.number) (loop.invariant.lines model loop.out is
-    (rw (drop_all loop.map-index c.linked-maps.result.now c.loop-map-test.false) (rows_nothing c.args.source.now.options model loop.out (c.lines_follow.ensures.nothing loop.out))))
+    rw (← c.linked-maps.ensures.rows model is (token_at TypeDef c.args.class) c.requires.number, flat_map-map) (items_printed (λ (map : KeyedRow). members (order_in c.args.source.now.orders.items) model c.args.list map.row) c.linked-maps.result.now c.loop-map.map-index c.loop-map-test.false (c.loop-map.invariant.lines model is))

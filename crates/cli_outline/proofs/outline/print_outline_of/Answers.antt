@@ -1,4 +1,5 @@
 use Rattle.cli_outline.proofs.Prelude.{◌∷◌, [], ◌∙◌, ⊎_elim, inl, inr, refl, sym, IsModel}
+use Rattle.cli_outline.proofs.ChosenLemmas.{all_printed}
 use Rattle.cli_outline.proofs.SubjectLemmas.{one_subject}
 use Rattle.cli_outline.proofs.outline.print_outline_of.Goals as goal
 
@@ -23,5 +24,5 @@ returns-clause-printed g c = λ model is.
       of,
       rw c.in-Ok-Some.field-0-is at (c.in-Ok-Some.ensures.sound model is),
       sym (c.declares.ensures model here) ∙ c.if-not-declares.false,
-      inl (of ∷ [], inr (c.in_default.not-TypeDef, refl), rw c.in-Ok.ensures.options at (c.print_row.ensures model here)),
+      inl (of ∷ [], inr (c.in_default.not-TypeDef, refl), rw c.in-Ok.ensures.options at (all_printed (c.print_row.ensures model here))),
     )

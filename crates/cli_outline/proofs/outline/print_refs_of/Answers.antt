@@ -16,5 +16,5 @@ returns-clause-printed g c = λ model is.
     let some = (c.finds.ensures model is).0 c.if-not-finds.false in
     let found = rw c.in-Ok-new.ensures.orders at (c.print_chosen.ensures model of) in (
       (some.0, some.1, (wants some.0).0 some.2),
-      (found.0, chosen_meant model c.args.subject types wants _ found.0 found.1, rw c.in-Ok-new.ensures.options at found.2),
+      (found.found, chosen_meant model c.args.subject types wants _ found.found found.chosen, rw c.in-Ok-new.ensures.options at found.printed),
     )

@@ -1,4 +1,5 @@
 use Rattle.cli_outline.proofs.Prelude.{[], inl, inr, refl, IsModel, order_in, last_tables}
+use Rattle.cli_outline.proofs.ChosenLemmas.{all_printed}
 use Rattle.cli_outline.proofs.PrintedLemmas.{rows_more}
 use Rattle.cli_outline.proofs.outline.print_type.Goals as goal
 
@@ -9,8 +10,8 @@ returns-in-Ok g c = λ model is.
     let found = c.print_chosen.ensures model of in
     inl (
       _,
-      (order_in c.in-Ok.source.orders.items, c.in-Ok.ensures.order model is, found.0, found.1, refl),
-      rw c.in-Ok.ensures.options at (rows_more c.in-Ok.source.options model c.lines_follow.ensures.more _ _ _ _ _ (c.print_class.ensures.lines model of) found.2),
+      (order_in c.in-Ok.source.orders.items, c.in-Ok.ensures.order model is, found.found, found.chosen, refl),
+      rw c.in-Ok.ensures.options at (rows_more c.in-Ok.source.options model _ _ _ _ _ (all_printed (c.print_class.ensures.lines model of)) found.printed),
     )
 
 pub returns-in-Err : goal.returns-in-Err

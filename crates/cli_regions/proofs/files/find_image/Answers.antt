@@ -1,6 +1,12 @@
 use Rattle.cli_regions.proofs.Prelude.{◌≡◌, ◌∙◌, [], ◌+◌, ap, codes, little_endian, part, optional_header_size, header_regions, optional_fields, dos_header_regions, file_header_regions, image_regions, optional_header_regions, and_then, said_as}
 use Rattle.cli_regions.proofs.files.find_image.Goals as goal
 
+pub find_sections-requires-clause-count : goal.find_sections-requires-clause-count
+find_sections-requires-clause-count c = c.u16_at-count.ensures.value ∙ ap (λ n. little_endian (part c.args.file.now (n + 6) 2)) c.u32_at-signature.ensures.value
+
+pub find_sections-requires-2-clause-count : goal.find_sections-requires-2-clause-count
+find_sections-requires-2-clause-count c = c.u16_at-count.ensures.value ∙ ap (λ n. little_endian (part c.args.file.now (n + 6) 2)) c.u32_at-signature.ensures.value
+
 pub returns : goal.returns
 unfolding image_regions dos_header_regions file_header_regions optional_header_regions
 returns c =

@@ -5,7 +5,7 @@ use Rattle.cli_regions.proofs.headers.find_stream_parts.Goals as goal
 pub loop-header-init : goal.loop-header-init
 loop-header-init c = record {
   left = λ later adds. said_as adds (ap (flat_map (stream_part_regions c.args.part c.args.start c.args.size)) c.into_iter-header-iterator.ensures.into_iter_gives);
-  low = All-same (BeginsBy 0x40000000) c.into_iter-header-iterator.result c.args.headers c.into_iter-header-iterator.ensures.into_iter_gives c.requires.small;
+  low = All-same (BeginsBy 0x40000000) c.into_iter-header-iterator.result c.args.of c.into_iter-header-iterator.ensures.into_iter_gives c.requires.small;
 }
 
 pub loop-header-preserved : goal.loop-header-preserved

@@ -8,7 +8,7 @@ pub loop-structure-preserved : goal.loop-structure-preserved
 loop-structure-preserved g c =
     let loop = c.loop-structure in
     let i = loop.structure-index in
-    let all = c.args.structures.now in
+    let all = c.args.of.now in
     let lines = λ (left : List Structure). map structure_line (map seen left) in
     c.reports_are_completed.ensures.more _ _ _ (structure_line (seen (get_or all i _)) ∷ []) (lines (drop (i + 1) all)) _
     (subst (λ (left : List Structure). Completes c.args.out.now loop.out (lines left) (lines all)) (drop_more all i _ c.loop-structure-test.true) loop.invariant) c.print_structure.ensures
@@ -16,4 +16,4 @@ loop-structure-preserved g c =
 pub returns : goal.returns
 returns g c =
     let loop = c.loop-structure in
-    c.reports_are_completed.ensures.all _ _ _ (rw (drop_all loop.structure-index c.args.structures.now c.loop-structure-test.false) at loop.invariant)
+    c.reports_are_completed.ensures.all _ _ _ (rw (drop_all loop.structure-index c.args.of.now c.loop-structure-test.false) at loop.invariant)

@@ -12,7 +12,7 @@ returns-in-Some c =
     finds_joined {AreFound = AreCellsAt c.args.layout.now c.args.start} (
       Some c.in-Some.cell,
       (from, rw c.offset-offset.ensures at c.in-Some.ensures.sound),
-      (λ i. record { start = c.args.start + c.cell_start.ensures.value i; size = c.cell_width.ensures.value i; what = is_cell c.in-Some.cell } ∷ []),
+      (λ i. record { start = c.args.start + c.cell_start.ensures.value i; size = c.cell_width-size.ensures.value i; what = is_cell c.in-Some.cell } ∷ []),
     )
     c.keep.ensures
 

@@ -1,6 +1,6 @@
 use Rattle.std.proofs.Common.{refl}
 use Rattle.cli_cells.specs.Shown.{IsContent, content_of}
-use Rattle.cli_found.proofs.values.print_reference.Goals as goal
+use Rattle.cli_found.proofs.values.add_reference.Goals as goal
 
 pub returns-then-not-is_reference : goal.returns-then-not-is_reference
 returns-then-not-is_reference g c = λ model is. rw (← c.is_reference.ensures.value model is, c.if-not-is_reference.true) (c.parts_follow.ensures.nothing _)
