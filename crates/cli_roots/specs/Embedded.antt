@@ -1,8 +1,7 @@
 -- What `clim embed` writes: a copy of a file with its canonical root, or with another (ECMA-335 II.25).
 use Rattle.std.specs.Prelude.{◌≡◌, ◌⊎◌, ℕ, List, [], ◌∷◌, codes, length, Option, None, Some, IfErr, OnOk}
-use Rattle.std.specs.Io.KnownBytes.{Appends}
 use Rattle.packed.specs.Offsets.{part}
-use Rattle.cli_roots.specs.Words.{FirstBroken, HasCertificate, HasStaleName, Planned, result_of, Failure, IsOutput, IsUnwritten, Outcome, Part, field, member, number, report_text, word, SendsPrefix}
+use Rattle.cli_roots.specs.Words.{Appends, FirstBroken, HasCertificate, HasStaleName, Failure, IsOutput, IsUnwritten, Outcome, Part, field, member, number, report_text, word, SendsPrefix}
 use Rattle.metadata.specs.Rules.{rules_of_file, rules_of_metadata}
 use Rattle.embedding.specs.declared.error.EmbedError.{EmbedError}
 use Rattle.embedding.specs.declared.error.EmbedError.TheVariants as error
@@ -55,17 +54,15 @@ embed_line count offset size =
     word (codes "wrote ") ∷ field name.Length (number count) ∷ word (codes " bytes")
     ∷ member name.Offset (number offset) ∷ member name.Size (number size) ∷ []
 
--- the line for what was planned: its length, and an offset that has the root
-abbrev pub IsLineOf : Planned → Form → (List ℕ → Type 0) → Type 0
-IsLineOf plan form P =
-    (offset : ℕ) × (part (result_of plan) offset (length plan.root) ≡ plan.root)
-    × P (report_text form (embed_line (length (result_of plan)) offset (length plan.root) ∷ []))
+-- this holds of the line for a copy with a root: the length of the copy, and an offset at which it has the root
+abbrev pub IsLineOf : Form → List ℕ → List ℕ → (List ℕ → Type 0) → Type 0
+IsLineOf form result root P =
+    (offset : ℕ) × (part result offset (length root) ≡ root) × P (report_text form (embed_line (length result) offset (length root) ∷ []))
 
 -- a file was given the copy with this root, all of it; and this holds of the line that says so
 abbrev pub IsPut : {F : Type 0} → (F → Option (List ℕ)) → Form → StrongName → List ℕ → List ℕ → (List ℕ → Type 0) → Type 0
 IsPut file_contents form strong_name file root P =
-    (result : List ℕ) × (offset : ℕ) × IsEmbedded strong_name file root result × (part result offset (length root) ≡ root)
-    × IsGiven file_contents result × P (report_text form (embed_line (length result) offset (length root) ∷ []))
+    (result : List ℕ) × IsEmbedded strong_name file root result × IsGiven file_contents result × IsLineOf form result root P
 
 module _ {W F : Type 0} (contents : W → Option (List ℕ)) (file_contents : F → Option (List ℕ)) (before after : W) (form : Form) (strong_name : StrongName) (file : List ℕ) where
   -- The first broken rule or the reason is reported, or that the file could not be written, and nothing is printed. Or the

@@ -1,10 +1,9 @@
 -- The canonical root that is written for a file (ECMA-335 II.24.2).
 use Rattle.std.specs.Prelude.{◌≡◌, ◌<◌, ◌^◌, ◌⊎◌, ℕ, List, [], ◌∷◌, codes, length, Option, IfErr, OnOk}
 use Rattle.packed.specs.declared.code.FaultCode.TheVariants.{TooLarge}
-use Rattle.cli_roots.specs.Words.{FirstBroken, fault, Metadata, IsModel, Failure, IsOutput, IsUnwritten, Failed, hint_for, Outcome, IsOpened, IsWhole, rules_of, Input, word, note, number, report_text, SendsPrefix}
+use Rattle.cli_roots.specs.Words.{Appends, FirstBroken, fault, Metadata, IsModel, Failure, IsOutput, IsUnwritten, Failed, hint_for, Outcome, IsOpened, IsWhole, rules_of, Input, word, note, number, report_text, SendsPrefix}
 use Rattle.root_writer.specs.Canonical.{canonical}
 use Rattle.cli_faults.specs.declared.failure.Failure.TheVariants as failed
-use Rattle.std.specs.Io.KnownBytes.{Appends}
 use Rattle.cli_roots.specs.Runs.{IsGiven}
 use Rattle.cli_lines.specs.declared.parts.Form.TheVariants.{Text}
 

@@ -1,13 +1,23 @@
--- What a run does with what reading a file gave, and what a file that it writes was given.
-use Rattle.std.specs.Prelude.{◌≡◌, ◌⊎◌, ℕ, List, Option, None, Result, IsErrAnd, MatchResult}
-use Rattle.std.specs.Io.KnownBytes.{Appends}
-use Rattle.cli_roots.specs.Words.{IsUnwritten, Failure, BudgetSpent, Failed, Stopped, Outcome, Input}
+-- What a run does with what reading a file gave, when the budget of a check is spent, and what a file that it writes was given.
+use Rattle.std.specs.Prelude.{◌≡◌, ◌⊎◌, ℕ, List, Option, None, Some, Result, IsErrAnd, MatchResult}
+use Rattle.cli_roots.specs.Words.{Appends, FirstBroken, IsSpentOf, rules_of, IsUnwritten, Failure, BudgetSpent, Failed, Stopped, Outcome, Input}
 use Rattle.cli_files.specs.Read.{IsRefused}
-use Rattle.cli_roots.specs.Budget.{IsSpent}
+use Rattle.checks.specs.declared.budget.BoundedError.{BoundedError}
+use Rattle.checks.specs.declared.budget.BoundedError.TheVariants as bounded
 
 -- it stopped by this failure, without a hint
 abbrev pub StopsBy : Failure → Stopped → Type 0
 StopsBy failure stopped = (stopped.stop ≡ Failed failure) × (stopped.hint ≡ None)
+
+-- texts or signatures spend the budget
+abbrev pub IsSpent : Option ℕ → Input → List ℕ → Type 0
+IsSpent None input bytes = ⊥
+IsSpent (Some most) input bytes = IsSpentOf most input bytes
+
+-- the first broken rule is reported, or that the budget is spent
+abbrev pub StopsWithin : Option ℕ → Input → List ℕ → BoundedError → Type 0
+StopsWithin budget input bytes (bounded.Fault found) = FirstBroken (rules_of input bytes) found
+StopsWithin budget input bytes bounded.BudgetSpent = IsSpent budget input bytes
 
 module _ {W : Type 0} (before after : W) where
   -- What reading a file gave decides: the run on its bytes; or the failure to read it, and nothing is printed.

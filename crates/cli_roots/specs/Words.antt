@@ -1,4 +1,5 @@
 -- The words of other crates that this crate uses.
+pub use Rattle.std.specs.Io.KnownBytes.{Appends}
 pub use Rattle.cli_faults.specs.Status.{IsOutput, IsUnwritten}
 pub use Rattle.cli_faults.specs.declared.failure.Failure.{Failure}
 pub use Rattle.cli_faults.specs.declared.stop.Stop.TheVariants.{Different, Failed, BudgetSpent}

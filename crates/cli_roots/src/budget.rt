@@ -1,7 +1,7 @@
 //! The budget of a check.
 ghost use Rattle.std.specs.Prelude.{IfErr, IsTrue, OnOk};
 ghost use Rattle.cli_roots.specs.Words.{IsWhole};
-ghost use Rattle.cli_roots.specs.Budget.{IsSpent, StopsWithin};
+ghost use Rattle.cli_roots.specs.Runs.{IsSpent, StopsWithin};
 
 use cli_files::{Input, open, open_within};
 use opening::BoundedError;
@@ -27,11 +27,9 @@ pub fn check_within(bytes: &[u8], input: Input, budget: Option<u64>) -> Result<(
 pub fn is_spent(bytes: &[u8], input: Input, budget: Option<u64>) -> bool
     ensures { IsTrue result → IsSpent budget input bytes.now }
 {
-    if budget.is_none() {
-        return false;
-    }
-    match check_within(bytes, input, budget) {
-        Err(BoundedError::BudgetSpent) => true,
-        Ok(()) | Err(BoundedError::Fault(_)) => false,
-    }
+    budget.is_some()
+        && matches!(
+            check_within(bytes, input, budget),
+            Err(BoundedError::BudgetSpent)
+        )
 }

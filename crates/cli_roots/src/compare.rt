@@ -66,30 +66,13 @@ pub fn compare_files<'a, R: Files + Input + AllocGlobal, W: Write>(
     if is_spent(right, options.input, options.budget) {
         return Err(Stopped::from(Stop::BudgetSpent));
     }
-    compare(rt.alloc(), file, other, left, right, options, out)
-}
-
-/// Prints what differs between two files besides the cells of ignored columns, or that nothing does. It stops with
-/// `Different` if something differs.
-///
-/// Bytes that are the same are opened once.
-fn compare<'a, W: Write>(
-    alloc: Global,
-    file: &'a str,
-    other: &'a str,
-    left: &[u8],
-    right: &[u8],
-    options: &CompareOptions,
-    out: &mut W,
-) -> Result<(), Stopped<'a>>
-    ensures { IsComparing W.contents out.old out.new options.now.output options.now.ignored options.now.input left.now right.now file.now other.now result }
-{
     let left_view = open_of(file, left, options.input)?;
+    // Bytes that are the same are opened once.
     if left == right {
-        return compare_views(alloc, &left_view, &left_view, options, out);
+        return compare_views(rt.alloc(), &left_view, &left_view, options, out);
     }
     let right_view = open_of(other, right, options.input)?;
-    compare_views(alloc, &left_view, &right_view, options, out)
+    compare_views(rt.alloc(), &left_view, &right_view, options, out)
 }
 
 /// Prints what differs between two views besides the cells of ignored columns, or that nothing does. It stops with

@@ -1,7 +1,7 @@
 //! The lines of what differs.
 ghost use Rattle.std.specs.Prelude.{◌≡◌, ◌∷◌, ◌<◌, [], All, length, slice_index};
 ghost use Rattle.cli_roots.specs.Words.{zero_padded, Metadata, IsModel, IsThere, Cell, Version, Prints};
-ghost use Rattle.cli_roots.specs.ComparedLines.{compared_lines, difference_line, same_bytes};
+ghost use Rattle.cli_roots.specs.Compared.{compared_lines, difference_line, same_bytes};
 
 use cli_cells::{Names, column_name, print_cell};
 use cli_lines::Part::{Field, Member, Note, Word};
@@ -16,7 +16,7 @@ use std::io::Write;
 /// if there is none. WHAT is `version`, `user strings`, `rows NN NAME`, or the token of a row and the name of a column. A
 /// cell is printed as by `clim show`. Of user strings A and B are the numbers of bytes, and ` at OFFSET` follows: the first
 /// offset in `#US` at which they differ.
-#[tactic(auto, unfolding(crate::specs::ComparedLines::equal_line))]
+#[tactic(auto, unfolding(crate::specs::Compared::equal_line))]
 pub fn print_differences<W: Write>(
     alloc: Global,
     left: &View<'_>,

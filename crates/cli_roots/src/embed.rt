@@ -1,6 +1,6 @@
 //! `clim embed`: a copy of a file with its canonical root, or with another.
 ghost use Rattle.std.specs.Prelude.{◌≡◌, ◌⊎◌, ℕ, List, Option, IfErr, option_map};
-ghost use Rattle.cli_roots.specs.Words.{IsOutput, Sent};
+ghost use Rattle.cli_roots.specs.Words.{IsOutput, Sent, result_of};
 ghost use Rattle.cli_roots.specs.Embedded.{IsEmbedding, IsLineOf, IsRootFor, IsRootRun, WarnsOf, failure_of};
 ghost use Rattle.cli_roots.specs.Runs.{IsFileRun, IsMixed, StopsBy};
 
@@ -105,7 +105,7 @@ fn print_length<'a, W: Write>(
     form: Form,
     out: &mut W,
 ) -> Result<(), Failure<'a>>
-    ensures sent { IsLineOf plan.now form (Sent (W.contents out.old) (W.contents out.new) result) }
+    ensures sent { IsLineOf form (result_of plan.now) plan.now.root (Sent (W.contents out.old) (W.contents out.new) result) }
     ensures failed { IfErr result IsOutput }
 {
     let range = plan.root_range();

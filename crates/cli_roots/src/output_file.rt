@@ -1,8 +1,7 @@
 //! The file that `clim rewrite` and `clim embed` write.
 ghost use Rattle.std.specs.Prelude.{◌≡◌, ◌<◌, ◌≤◌, ℕ, IfErr, IfOk, length, take};
-ghost use Rattle.std.specs.Io.KnownBytes.{Appends};
 ghost use Rattle.std.specs.Str.{IsCharBoundary};
-ghost use Rattle.cli_roots.specs.Words.{IsUnwritten};
+ghost use Rattle.cli_roots.specs.Words.{Appends, IsUnwritten};
 ghost use Rattle.cli_roots.specs.Runs.{WasGiven};
 
 use cli_faults::{Failure, FileError, Reason};
@@ -38,47 +37,34 @@ const PRIVATE: u32 = 0o600;
 /// The bits of a mode for reading, writing and executing a file.
 const ACCESS: u32 = 0o777;
 
-/// Whether two files are one, as far as the system reports it.
-#[derive(Clone, Copy)]
-enum Relation {
-    /// They are one file.
-    Same,
-    /// They are two files.
-    Different,
-    /// It is not known.
-    Unknown,
+/// Whether two files are one, by their device and number; `None` if the system does not report it.
+fn are_same(left: &Metadata, right: &Metadata) -> Option<bool> {
+    let same = left.dev() == right.dev() && left.ino() == right.ino();
+    // A file system that numbers no files reports 0.
+    (!same || left.ino() != 0).then_some(same)
 }
 
-impl Relation {
-    /// Compares two files by their device and number.
-    fn of(left: &Metadata, right: &Metadata) -> Relation {
-        // A file system that numbers no files reports 0.
-        if left.dev() != right.dev() || left.ino() != right.ino() {
-            Relation::Different
-        } else if left.ino() == 0 {
-            Relation::Unknown
+/// Whether a path leads to a file, if it is known.
+fn leads_to<R: Files>(rt: &R, path: &str, file: &Metadata) -> Option<bool> {
+    fs::metadata(rt, path).map_or(None, |found| are_same(&found, file))
+}
+
+/// Whether one of the files that were read is another, if it is known.
+fn is_any<R: Files>(rt: &R, read: &[&str], other: &Metadata) -> Option<bool> {
+    let mut closest = Some(false);
+    for file in read {
+        let path = if *file == STANDARD_INPUT {
+            INPUT_PATH
         } else {
-            Relation::Same
+            *file
+        };
+        match leads_to(rt, path, other) {
+            Some(false) => {}
+            Some(true) => return Some(true),
+            None => closest = None,
         }
     }
-
-    /// Compares the file that a path leads to with another.
-    fn at<R: Files>(rt: &R, path: &str, other: &Metadata) -> Relation {
-        fs::metadata(rt, path).map_or(Relation::Unknown, |found| Relation::of(&found, other))
-    }
-
-    /// Compares each of the files that were read with another: whether one of them is it, or may be it.
-    fn of_any<R: Files>(rt: &R, read: &[&str], other: &Metadata) -> Relation {
-        let mut closest = Relation::Different;
-        for file in read {
-            match Relation::at(rt, path_of(file), other) {
-                Relation::Same => return Relation::Same,
-                Relation::Unknown => closest = Relation::Unknown,
-                Relation::Different => {}
-            }
-        }
-        closest
-    }
+    closest
 }
 
 /// Refuses a path of a file to write that is that of the standard output, which takes the line `wrote N bytes`: a terminal, a
@@ -94,7 +80,7 @@ pub fn check_path<'a, R: Files>(rt: &R, path: &'a str) -> Result<(), Failure<'a>
         return Ok(());
     }
     match fs::metadata(rt, path) {
-        Ok(found) if matches!(Relation::at(rt, OUTPUT_PATH, &found), Relation::Same) => {
+        Ok(found) if matches!(leads_to(rt, OUTPUT_PATH, &found), Some(true)) => {
             Err(not_written(path, Reason::StandardOutput))
         }
         _ => Ok(()),
@@ -121,19 +107,10 @@ pub fn write_file<'a, R: Files + AllocGlobal>(
     let Ok(found) = fs::metadata(rt, path) else {
         return overwrite(rt, bytes, path);
     };
-    match (Relation::of_any(rt, read, &found), found.is_file()) {
-        (Relation::Same | Relation::Unknown, true) => replace(rt, bytes, &found, path),
-        (Relation::Same, false) => Err(not_written(path, Reason::Input)),
-        (Relation::Different, _) | (Relation::Unknown, false) => overwrite(rt, bytes, path),
-    }
-}
-
-/// The path that leads to what was read from a file.
-fn path_of<'a>(file: &'a str) -> &'a str {
-    if file == STANDARD_INPUT {
-        INPUT_PATH
-    } else {
-        file
+    match (is_any(rt, read, &found), found.is_file()) {
+        (Some(true) | None, true) => replace(rt, bytes, &found, path),
+        (Some(true), false) => Err(not_written(path, Reason::Input)),
+        (Some(false), _) | (None, false) => overwrite(rt, bytes, path),
     }
 }
 
@@ -167,14 +144,14 @@ fn replace<'a, R: Files + AllocGlobal>(
     // A symbolic link stays. The file that it leads to is replaced.
     let target = fs::canonicalize(rt, path).map_err(|error| Failure::of_opening(&error, path))?;
     // An open file that was removed leads to a path of which another file may have been made.
-    if let Relation::Different = Relation::at(rt, target.as_str(), replaced) {
+    if let Some(false) = leads_to(rt, target.as_str(), replaced) {
         return Err(not_written(path, Reason::Input));
     }
     let (file, beside) = create_beside(rt, target.as_str()).map_err(|error| Failure::of_opening(
         &error, path,
     ))?;
     let outcome = match send(bytes, file, path) {
-        Ok(file) => match finish(rt, &file, replaced, beside.as_str(), target.as_str()) {
+        Ok(file) => match place(rt, &file, replaced, beside.as_str(), target.as_str()) {
             Ok(()) => Ok(file),
             Err(error) => Err(Failure::of_opening(&error, path)),
         },
@@ -191,7 +168,9 @@ fn replace<'a, R: Files + AllocGlobal>(
 fn create_beside<R: Files + AllocGlobal>(rt: &R, target: &str) -> io::Result<(R::File, String)> {
     for number in 1..=ATTEMPTS {
         let beside = path_beside(rt.alloc(), target, number)?;
-        match create_private(rt, beside.as_str()) {
+        let mut options = OpenOptions::new();
+        options.write(true).create_new(true).mode(PRIVATE);
+        match options.open(rt, beside.as_str()) {
             Ok(file) => return Ok((file, beside)),
             Err(error) if error.kind() == ErrorKind::AlreadyExists => {}
             Err(error) => return Err(error),
@@ -226,25 +205,10 @@ fn prefix_of(name: &str, room: usize) -> &str
     prefix
 }
 
-/// A new file that only its owner may use.
-fn create_private<R: Files>(rt: &R, path: &str) -> io::Result<R::File> {
-    OpenOptions::new()
-        .write(true)
-        .create_new(true)
-        .mode(PRIVATE)
-        .open(rt, path)
-}
-
 /// Gives a written file the permissions of the one that it replaces, and its path. Its owner stays the user who runs the
 /// program, so it gets no bit that lets others act as that user.
-fn finish<R: Files>(
-    rt: &R,
-    file: &R::File,
-    replaced: &Metadata,
-    from: &str,
-    to: &str,
-) -> io::Result<()> {
-    file.set_permissions(Permissions::from_mode(replaced.mode() & ACCESS))?;
+fn place<R: Files>(rt: &R, file: &R::File, old: &Metadata, from: &str, to: &str) -> io::Result<()> {
+    file.set_permissions(Permissions::from_mode(old.mode() & ACCESS))?;
     file.sync_all()?;
     fs::rename(rt, from, to)
 }

@@ -8,7 +8,7 @@ ghost use Rattle.cli_lines.specs.Shown.{shown};
 use crate::budget::is_spent;
 use crate::output_file::{check_path, write_file};
 use cli_faults::{Failure, Stop};
-use cli_files::{Input as Given, Stopped, open, read_file};
+use cli_files::{Input as Kind, Stopped, open, read_file};
 use cli_lines::Part::{Note, Word};
 use cli_lines::Value::Number;
 use cli_lines::{Form, Part, Printer};
@@ -29,7 +29,7 @@ pub fn rewrite_file<'a, R: Files + Input + AllocGlobal, W: Write>(
     rt: &R,
     path: &'a str,
     file: &'a str,
-    input: Given,
+    input: Kind,
     budget: Option<u64>,
     out: &mut W,
 ) -> Result<(), Stopped<'a>>
@@ -53,7 +53,7 @@ pub fn rewrite_file<'a, R: Files + Input + AllocGlobal, W: Write>(
 fn rewrite<'a, R: Files + AllocGlobal, W: Write>(
     rt: &R,
     bytes: &[u8],
-    input: Given,
+    input: Kind,
     file: &str,
     path: &'a str,
     out: &mut W,
@@ -77,11 +77,7 @@ const LIMIT: u32 = 1 << 30;
 /// # Errors
 ///
 /// The fault of the first rule that fails, `TooLarge` if the root has more than 2^30 bytes, or out of memory.
-pub fn canonical_root<'a>(
-    alloc: Global,
-    bytes: &[u8],
-    input: Given,
-) -> Result<Prepared, Failure<'a>>
+pub fn canonical_root<'a>(alloc: Global, bytes: &[u8], input: Kind) -> Result<Prepared, Failure<'a>>
     ensures sound { IfOk result (IsRewritten input bytes.now) }
     ensures first_error { IfErr result (ReportsUnwritten input bytes.now) }
 {

@@ -59,7 +59,7 @@ use Rattle.cli_where.specs.Where.{AreStructuresAt}
 use Rattle.cli_where.specs.declared.report.Found.{Found as FoundAt}
 use Rattle.cli_where.specs.declared.report.Found.TheVariants.{Nothing, Something}
 use Rattle.cli_where.specs.declared.walk.Reach.TheVariants.{Cells, Entries}
-use Rattle.cli_roots.specs.Budget.{IsSpent}
+use Rattle.cli_roots.specs.Runs.{IsSpent}
 use Rattle.cli_roots.specs.Rewritten.{IsRewritten, ReportsUnwritten}
 use Rattle.cli_runs.specs.declared.report.Ended.{Ended}
 use Rattle.cli_runs.specs.declared.report.Ended.TheVariants.{Printed, Refused, Stopped}

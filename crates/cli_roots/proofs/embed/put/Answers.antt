@@ -1,5 +1,4 @@
-use Rattle.cli_roots.proofs.Prelude.{◌≡◌, ℕ, List, Option, inl, inr, refl, err_from_is_err_and, failure_of, result_of, SendsPrefix, Planned, OutOfMemory, IsLineOf, IsPut}
-use Rattle.std.specs.Io.KnownBytes.{Appends}
+use Rattle.cli_roots.proofs.Prelude.{◌≡◌, ℕ, List, Option, inl, inr, refl, err_from_is_err_and, failure_of, result_of, SendsPrefix, Planned, OutOfMemory, Appends, IsLineOf, IsPut}
 use Rattle.embedding.specs.declared.strong_name.StrongName.{StrongName}
 use Rattle.embedding.specs.Embedded.{IsEmbedded}
 use Rattle.cli_lines.specs.declared.parts.Form.{Form}
@@ -8,9 +7,9 @@ use Rattle.cli_roots.proofs.embed.put.Goals as goal
 
 -- what was planned is put into a file that was given its bytes
 planned_put : {F : Type 0} (contents : F → Option (List ℕ)) (form : Form) (strong_name : StrongName) (old root bytes : List ℕ) (plan : Planned) (file : F) (P : List ℕ → Type 0) → plan.root ≡ root
-    → IsEmbedded strong_name old root (result_of plan) → bytes ≡ result_of plan → WasGiven contents bytes file → IsLineOf plan form P → IsPut contents form strong_name old root P
+    → IsEmbedded strong_name old root (result_of plan) → bytes ≡ result_of plan → WasGiven contents bytes file → IsLineOf form (result_of plan) plan.root P → IsPut contents form strong_name old root P
 planned_put contents form strong_name old root bytes plan file P same sound whole given line =
-    rw (← same) (result_of plan, line.0, rw (← same) at sound, line.1, (file, rw whole at given), line.2)
+    rw (← same) (result_of plan, rw (← same) at sound, (file, rw whole at given), line)
 
 pub returns-in-Err-clause-run : goal.returns-in-Err-clause-run
 returns-in-Err-clause-run g c = λ given is.
