@@ -9,14 +9,14 @@ use Rattle.file_ranges.specs.Bodies.{body_end}
 use Rattle.cli_contents.specs.declared.bodies.Body.{Body}
 
 -- the body of a method that begins at an offset of a file (II.25.4)
-abbrev pub body_from : List ℕ → ℕ → ℕ → Option Body
-body_from file row start = option_map (λ size. record { row = row; start = start; size = size }) (body_end (drop start file))
+abbrev pub body_from : List ℕ → ℕ → Option Body
+body_from file start = option_map (λ size. record { start = start; size = size }) (body_end (drop start file))
 
 -- The body of a method by its address and its ImplFlags: it has one if the address is not 0 and is in the file, and if the
 -- low two bits of the flags say that it is code of CIL (II.23.1.10).
-unfoldable pub body_at : Image → ℕ → ℕ → ℕ → Option Body
-body_at image row rva flags =
-    if rva == 0 then None else (if flags % 4 == 0 then option_and_then (body_from image.bytes row) (offset_at image rva 1) else None)
+unfoldable pub body_at : Image → ℕ → ℕ → Option Body
+body_at image rva flags =
+    if rva == 0 then None else (if flags % 4 == 0 then option_and_then (body_from image.bytes) (offset_at image rva 1) else None)
 
 abbrev pub body_of : Image → Metadata → ℕ → Option Body
-body_of image model row = body_at image row (number_in (cell_in model MethodDef row 0)) (number_in (cell_in model MethodDef row 1))
+body_of image model row = body_at image (number_in (cell_in model MethodDef row 0)) (number_in (cell_in model MethodDef row 1))

@@ -42,17 +42,17 @@ abbrev pub data_size : Metadata → ℕ → ℕ
 data_size model field = type_size model (field_type (items_in (cell_in model Field field 2)))
 
 -- the data of a field that begins at an offset of a file, if the file has its first byte
-abbrev pub data_from : Image → ℕ → ℕ → ℕ → Option Body
-data_from image field size start = if nat_le (start + 1) (length image.bytes) then Some (record { row = field; start = start; size = size }) else None
+abbrev pub data_from : Image → ℕ → ℕ → Option Body
+data_from image size start = if nat_le (start + 1) (length image.bytes) then Some (record { start = start; size = size }) else None
 
 -- the data at the address of a field, if its first byte is in the file
-abbrev pub data_in : Image → ℕ → ℕ → ℕ → Option Body
-data_in image field rva size = option_and_then (data_from image field size) (offset_at image rva 1)
+abbrev pub data_in : Image → ℕ → ℕ → Option Body
+data_in image rva size = option_and_then (data_from image size) (offset_at image rva 1)
 
 -- the data of a field by its first row of FieldRVA, if there is one
 abbrev pub data_by : Image → Metadata → ℕ → Option ℕ → Option Body
 data_by image model field None = None
-data_by image model field (Some row) = data_in image field (number_in (cell_in model FieldRVA row 0)) (data_size model field)
+data_by image model field (Some row) = data_in image (number_in (cell_in model FieldRVA row 0)) (data_size model field)
 
 abbrev pub data_of : Image → Metadata → ℕ → Option Body
 data_of image model field = data_by image model field (first_linked model link_of.FieldData (token_at Field field))

@@ -1,4 +1,3 @@
 pub mod Bodies
 pub mod FieldData
-pub mod Contents
 pub mod Lines

@@ -1,5 +1,5 @@
 //! Prints the lines of methods, and of fields with data.
-ghost use Rattle.std.specs.Prelude.{◌≡◌, ◌<◌, ◌≤◌, ◌∷◌, ◌^◌, [], IfSome, MatchOption, false, length, map, nat_le, take, true};
+ghost use Rattle.std.specs.Prelude.{◌≡◌, ◌<◌, ◌≤◌, ◌∷◌, ◌^◌, [], IfSome, MatchOption, false, length, nat_le, true};
 ghost use Rattle.metadata.specs.Metadata.{Metadata};
 ghost use Rattle.metadata.specs.Model.{IsModel};
 ghost use Rattle.opening.specs.Views.{row_count};
@@ -7,8 +7,7 @@ ghost use Rattle.pe.specs.Headers.{section_count};
 ghost use Rattle.pe.specs.Image.{Image, IsImage};
 ghost use Rattle.table_schema.specs.CellColumns.{cell_count};
 ghost use Rattle.cli_lines.specs.Printed.{Prints};
-ghost use Rattle.cli_contents.specs.Contents.{content_with, contents_at, kept, name_in, table_of, word_for};
-ghost use Rattle.cli_contents.specs.Lines.{content_line, content_lines, content_limit, row_line, section_limit};
+ghost use Rattle.cli_contents.specs.Lines.{content_line, content_lines, content_with, first_lines, kept, name_in, row_line, section_limit, table_of, word_for};
 
 use crate::bodies::{Body, body_of};
 use crate::field_data::data_of;
@@ -56,8 +55,7 @@ fn shape(kind: Kind) -> (TableId, usize, &'static str)
 
 /// A body or data, if the byte at an offset is in it.
 fn kept(of: Body, offset: u64) -> Option<Body>
-    ensures kept { result ≡ kept offset of }
-    ensures row { IfSome result (λ body. body.row ≡ of.row) }
+    ensures { result ≡ kept offset of }
 {
     let start = of.start as u64;
     if start <= offset && offset - start < of.size.max(KNOWN) as u64 {
@@ -78,8 +76,7 @@ fn content_with(
     requires small { length pe.now.bytes ≤ 2 ^ 30 }
     requires first { 1 ≤ row }
     requires last { row ≤ row_count source.now.view.now (table_of kind) }
-    ensures content { (model : Metadata) → IsModel source.now.view.now model → result ≡ content_with kind pe.now model offset row }
-    ensures row { IfSome result (λ of. of.row ≡ row) }
+    ensures { (model : Metadata) → IsModel source.now.view.now model → result ≡ content_with kind pe.now model offset row }
 {
     match kind {
         Kind::Method => kept(body_of(pe, source.view, row)?, offset),
@@ -113,13 +110,12 @@ pub(crate) fn print_content<'a, W: Write>(
 }
 
 /// Prints the line of what a row refers to.
-fn print_row<W: Write>(view: &View<'_>, kind: Kind, of: Body, out: &mut Printer<'_, W>)
-    requires first { 1 ≤ of.row }
-    requires last { of.row ≤ row_count view.now (table_of kind) }
-    ensures { (model : Metadata) → IsModel view.now model → Prints out.old out.new (row_line kind model of ∷ []) }
+fn print_row<W: Write>(view: &View<'_>, kind: Kind, row: u32, of: Body, out: &mut Printer<'_, W>)
+    requires first { 1 ≤ row }
+    requires last { row ≤ row_count view.now (table_of kind) }
+    ensures { (model : Metadata) → IsModel view.now model → Prints out.old out.new (row_line kind model row of ∷ []) }
 {
     let (table, cell, word) = shape(kind);
-    let row = of.row;
     let name = text_or_empty(view, table, row, cell);
     let (start, size) = (of.start as u64, of.size as u64);
     print_content(start, size, word, Token { table, row }, name, out);
@@ -134,8 +130,7 @@ fn print_first<W: Write>(
     out: &mut Printer<'_, W>,
 )
     requires { length pe.now.bytes ≤ 2 ^ 30 }
-    ensures { (model : Metadata) → IsModel source.now.view.now model
-        → Prints out.old out.new (map (row_line kind model) (take content_limit (contents_at kind pe.now model offset))) }
+    ensures { (model : Metadata) → IsModel source.now.view.now model → Prints out.old out.new (first_lines kind pe.now model offset) }
 {
     cli_lines::laws::lines_follow::<W>();
     let (table, _, _) = shape(kind);
@@ -148,7 +143,7 @@ fn print_first<W: Write>(
         if left == 0 {
             return;
         }
-        print_row(source.view, kind, of, out);
+        print_row(source.view, kind, row, of, out);
         left -= 1;
     }
 }
