@@ -72,56 +72,54 @@ impl Kind {
 
 /// The key that was hashed last, and its SHA-1. Rows often have the same key, which is then hashed once.
 #[derive(Drop)]
-struct LastKey {
-    key: Vec<u8>,
+struct LastKey<'a> {
+    key: &'a [u8],
     digest: [u8; DIGEST_SIZE],
 }
 
-impl Model for LastKey {
+impl<'a> Model for LastKey<'a> {
     ghost use Rattle.std.specs.Prelude.{◌≡◌, List, ℕ};
     ghost use Rattle.sha1.specs.Sha1.{sha1};
 
     ghost Value = { List ℕ };
 
-    ghost view = { λ last. last.key.items };
+    ghost view = { λ last. last.key.now };
 
-    ghost invariant = { λ last. last.digest ≡ sha1 last.key.items };
+    ghost invariant = { λ last. last.digest ≡ sha1 last.key.now };
 }
 
-impl LastKey {
+impl<'a> LastKey<'a> {
     /// The empty key.
-    fn new(alloc: Global) -> LastKey {
+    fn new() -> LastKey<'a> {
+        let key: &[u8] = &[];
         LastKey {
-            key: Vec::new(alloc),
-            digest: Sha1::digest(b""),
+            key,
+            digest: Sha1::digest(key),
         }
     }
 
     /// The SHA-1 of a key, which is the last one from now on.
-    fn digest_of(&mut self, alloc: Global, key: &[u8]) -> Result<[u8; DIGEST_SIZE], AllocError>
-        ensures { IfOk result (λ digest. digest ≡ sha1 key.now) }
+    fn digest_of(&mut self, key: &'a [u8]) -> [u8; DIGEST_SIZE]
+        ensures { result ≡ sha1 key.now }
     {
-        if self.key.as_slice() == key {
-            return Ok(self.digest);
+        if self.key == key {
+            return self.digest;
         }
         let digest = Sha1::digest(key);
-        *self = LastKey {
-            key: Vec::from_slice(alloc, key)?,
-            digest,
-        };
-        Ok(digest)
+        *self = LastKey { key, digest };
+        digest
     }
 }
 
 /// The token of a key in hexadecimal: the last eight bytes of its SHA-1 in reverse order (II.6.3), unless it is a token
 /// already. It is `null` if there is no key, and `?` if it is too long.
 #[tactic(auto, unfolding(crate::specs::Identities::token_text))]
-fn token_text(
+fn token_text<'a>(
     alloc: Global,
     kind: Kind,
     flags: u32,
-    key: &[u8],
-    last: &mut LastKey,
+    key: &'a [u8],
+    last: &mut LastKey<'a>,
 ) -> Result<String, AllocError>
     ensures { IfOk result (λ text. string_bytes text ≡ token_text kind flags key.now) }
 {
@@ -134,7 +132,7 @@ fn token_text(
     if kind.has_token(flags) {
         return hex::encode(alloc, key);
     }
-    let mut digest = last.digest_of(alloc, key)?;
+    let mut digest = last.digest_of(key);
     digest.reverse();
     let (token, _) = digest.split_at(TOKEN_SIZE);
     hex::encode(alloc, token)
@@ -212,12 +210,12 @@ fn write_byte<W: fmt::Write>(byte: u8, f: &mut fmt::Formatter<W>) -> fmt::Result
 
 /// Prints the identity in a row.
 #[tactic(auto, unfolding(crate::specs::Identities::identity_line))]
-fn print_identity<W: Write>(
+fn print_identity<'a, W: Write>(
     alloc: Global,
-    view: &View<'_>,
+    view: &View<'a>,
     kind: Kind,
     row: u32,
-    last: &mut LastKey,
+    last: &mut LastKey<'a>,
     out: &mut Printer<'_, W>,
 )
     requires first { 1 ≤ row }
@@ -271,7 +269,7 @@ pub(crate) fn print_identities<W: Write>(
 {
     cli_lines::laws::lines_follow::<W>();
     let (table, _, _, _) = kind.shape();
-    let mut last = LastKey::new(alloc);
+    let mut last = LastKey::new();
     for earlier in 0..view.count(table) {
         print_identity(alloc, view, kind, earlier + 1, &mut last, out);
     }
