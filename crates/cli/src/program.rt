@@ -3,7 +3,7 @@ ghost use Rattle.std.specs.Prelude.{◌≡◌, ◌≤◌, ◌⊎◌, map};
 ghost use Rattle.clap.specs.Words.{kind_of};
 ghost use Rattle.cli_arguments.specs.Asked.{Gives};
 ghost use Rattle.cli_arguments.specs.declared.asked.Ask.{Ask as Asked};
-ghost use Rattle.cli.specs.Runs.{AsksToWarn, Does, IsExplaining, IsRunOf, IsUsage, MayWarn, Ran, form_on, path_of, request_on};
+ghost use Rattle.cli.specs.Runs.{AsksToWarn, IsRunOf, IsUsage, MayWarn, Ran, form_on, path_of, request_on};
 
 use crate::task::{Task, form_of, input_of, task_of};
 use crate::usage_text::usage_text;
@@ -15,7 +15,6 @@ use cli_lines::Form;
 use cli_roots::{compare_files, embed_file, rewrite_file};
 use cli_runs::{Request, explain_rules, extract_file, run_files, run_listed};
 use cli_sending::finish;
-use packed::FaultCode;
 use std::alloc::Global;
 use std::io::Write;
 use std::rt::Files;
@@ -80,7 +79,7 @@ pub fn go<R: Files + Input + AllocGlobal, W: Write, E: Write>(
     go_on(rt, Terminal::Ascii, words, out, err)
 }
 
-/// Runs the program on its arguments, as [`go`] does, for a terminal.
+/// Runs the program on its arguments, as [`go`] does, for a terminal. All arguments are checked before a file is read.
 pub fn go_on<R: Files + Input + AllocGlobal, W: Write, E: Write>(
     rt: &R,
     terminal: Terminal,
@@ -89,15 +88,16 @@ pub fn go_on<R: Files + Input + AllocGlobal, W: Write, E: Write>(
     err: &mut E,
 ) -> u8
     ensures limit { result ≤ 3 }
-    // It does what the arguments ask for, with what reading the files gave. The exit code and the output are those of
-    // that run.
     ensures run { Ran W.contents out.old out.new terminal R.File.contents (map (λ word. word.now) words.now) result }
-    // If it succeeds, nothing goes to `err`, unless it is `embed` or directories are walked.
     ensures quiet { result ≡ 0 → (err.new ≡ err.old) ⊎ ((given : Asked) × Gives (map (λ word. word.now) words.now) given × AsksToWarn given) }
 {
-    match ask(rt.alloc(), &*words) {
-        Ok(ask) => run(rt, terminal, &ask, out, err),
-        Err(usage_error) => report_usage_error(rt.alloc(), &usage_error, &*words, out, err),
+    let alloc = rt.alloc();
+    match ask(alloc, &*words) {
+        Ok(ask) => match task_of(alloc, &ask) {
+            Ok(task) => run_task(rt, terminal, task, &ask, out, err),
+            Err(failure) => status(alloc, Err(Stopped::from(failure)), err),
+        },
+        Err(usage_error) => report_usage_error(alloc, &usage_error, &*words, out, err),
     }
 }
 
@@ -126,25 +126,6 @@ fn report_usage_error<W: Write, E: Write>(
     match printed(finish(text.as_bytes(), out)) {
         Ok(()) => 0,
         Err(failure) => status(alloc, Err(Stopped::from(failure)), err),
-    }
-}
-
-/// Runs the task of the arguments, reports why it stopped early, and returns the exit code. All arguments are checked
-/// before a file is read.
-fn run<R: Files + Input + AllocGlobal, W: Write, E: Write>(
-    rt: &R,
-    terminal: Terminal,
-    ask: &Ask<'_>,
-    out: &mut W,
-    err: &mut E,
-) -> u8
-    ensures limit { result ≤ 3 }
-    ensures does { Does W.contents out.old out.new terminal R.File.contents ask.now result }
-    ensures quiet { result ≡ 0 → (err.new ≡ err.old) ⊎ AsksToWarn ask.now }
-{
-    match task_of(rt.alloc(), ask) {
-        Ok(task) => run_task(rt, terminal, task, ask, out, err),
-        Err(failure) => status(rt.alloc(), Err(Stopped::from(failure)), err),
     }
 }
 
@@ -185,7 +166,9 @@ fn run_task<R: Files + Input + AllocGlobal, W: Write, E: Write>(
         Task::Compare(file, other, options) => {
             status(alloc, compare_files(rt, file, other, &options, out), err)
         }
-        Task::Explain(rules) => explain(alloc, rules.as_slice(), form_of(ask.json), out, err),
+        Task::Explain(rules) => {
+            explain_rules(alloc, rules.as_slice(), form_of(ask.json), out, err)
+        }
     }
 }
 
@@ -196,23 +179,5 @@ fn path_of(list: Option<&str>) -> &str
     match list {
         Some(path) => path,
         None => STANDARD_INPUT,
-    }
-}
-
-/// Explains rules, or lists all. Reports why it stopped early, and returns the exit code.
-fn explain<W: Write, E: Write>(
-    alloc: Global,
-    rules: &[FaultCode],
-    form: Form,
-    out: &mut W,
-    err: &mut E,
-) -> u8
-    ensures limit { result ≤ 3 }
-    ensures run { IsExplaining form rules.now (W.contents out.old) (W.contents out.new) result }
-    ensures quiet { result ≡ 0 → err.new ≡ err.old }
-{
-    match explain_rules(alloc, rules, form, out) {
-        Ok(()) => 0,
-        Err(failure) => status(alloc, Err(Stopped::from(failure)), err),
     }
 }

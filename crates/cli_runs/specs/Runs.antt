@@ -16,7 +16,7 @@ use Rattle.cli_files.specs.declared.opened.Input.TheVariants.{File}
 use Rattle.cli_info.specs.Resources.{IsContentOf, IsUnfound}
 use Rattle.cli_lines.specs.declared.parts.Form.{Form}
 use Rattle.cli_lines.specs.Lines.{Part, report_text, styled_text}
-use Rattle.cli_sending.specs.Sent.{SendsPrefix, Sent}
+use Rattle.cli_sending.specs.Sent.{SendsPrefix}
 use Rattle.cli_print.specs.Explanations.{AreExplanations}
 use Rattle.cli_runs.specs.Reports.{HasEnded, style_of}
 use Rattle.cli_runs.specs.declared.listed.Separator.{Separator}
@@ -54,11 +54,12 @@ names_in separator given = if length given == 0 then [] else slice_split (λ byt
 abbrev pub is_input : List ℕ → Bool
 is_input name = bytes_eq name (codes "-")
 
--- the explanations of these rules went out; or the output failed after a prefix of them
-abbrev pub IsExplained : Form → List FaultCode → Option (List ℕ) → Option (List ℕ) → Result (Unit {0}) Failure → Type 0
-IsExplained form rules before after result =
-    ((lines : List (List Part)) × AreExplanations rules lines × Sent before after result (report_text form lines))
-    × IfErr result IsOutput
+-- the explanations of these rules went out; or the output failed after a prefix of them; with this exit code
+abbrev pub IsExplained : Form → List FaultCode → Option (List ℕ) → Option (List ℕ) → ℕ → Type 0
+IsExplained form rules before after status =
+    (lines : List (List Part)) × AreExplanations rules lines
+    × ((Appends before after (report_text form lines) × (status ≡ 0))
+    ⊎ ((failure : Failure) × IsOutput failure × SendsPrefix before after (report_text form lines) × (status ≡ status_of failure)))
 
 module _ {W : Type 0} (contents : W → Option (List ℕ)) (before after : W) (bytes name : List ℕ) where
   -- there is no such content, and nothing is written; or the output failed after a prefix of it
