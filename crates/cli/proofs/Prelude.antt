@@ -1,5 +1,5 @@
 -- What several proofs of this crate name of std, of the crates below, and of its own definitions.
-pub use Rattle.std.proofs.Common.{◌≡◌, ◌≢◌, ◌∙◌, ◌+◌, ◌<◌, ℕ, true, List, [], ◌∷◌, ◌++◌, All, drop, take, get_or, length, refl, ap, sym, subst, arith, inl, inr, ◌⊎◌, suc}
+pub use Rattle.std.proofs.Common.{◌≡◌, ◌≢◌, ◌∙◌, ◌+◌, ◌<◌, ℕ, true, List, [], ◌∷◌, ◌++◌, All, drop, take, get_or, length, refl, ap, sym, arith, inl, inr, ◌⊎◌, suc}
 pub use Rattle.std.proofs.Math.Seq.{split_at}
 pub use Rattle.std.proofs.lemmas.List.{get_or_append_left, length-append, take_more, take_all}
 pub use Rattle.std.proofs.lemmas.List.Elements.{All-more, All-weaker, All-cons, All-nil}

@@ -1,6 +1,6 @@
 -- What the arguments ask the program to do.
 use Rattle.std.specs.Prelude.{◌≡◌, ℕ, Bool, true, false, List, [], ◌∷◌, ◌++◌, ◌||◌, Option, Some, None, is_some, Result, Ok, Err, IsOkAnd, MatchOption, MatchResult, codes, if◌then◌else◌}
-use Rattle.std.specs.List.{All}
+use Rattle.std.specs.List.{All, AllZip}
 use Rattle.std.specs.Borrow.{Bor}
 use Rattle.std.specs.Str.{bytes_eq}
 use Rattle.std.specs.Str.Parse.{digits_value}
@@ -138,8 +138,7 @@ IsRefs part made = IsOnPart part (report.Listing listing.Refs) report.RefsOf mad
 
 -- each of the arguments names one of these, in their order
 abbrev pub NameEach : {X : Type 0} → (List ℕ → X → Type 0) → List (Bor (List ℕ)) → List X → Type 0
-NameEach {X} Names [] named = named ≡ []
-NameEach {X} Names (word ∷ words) named = (first : X) × (more : List X) × Names word.now first × NameEach Names words more × (named ≡ first ∷ more)
+NameEach Names words named = AllZip (λ word. Names word.now) words named
 
 -- the failure is that of the first argument that names none of these; or memory ran out
 abbrev pub IsOfFirstUnknown : {X : Type 0} → (List ℕ → X → Type 0) → (Bor (List ℕ) → Failure → Type 0) → List (Bor (List ℕ)) → Failure → Type 0

@@ -1,6 +1,7 @@
 -- What several proofs of this crate name of std, of the crates below, and of its own definitions.
 pub use Rattle.std.proofs.Common.{◌≡◌, ◌∙◌, ℕ, List, [], ◌∷◌, ◌++◌, map, length, get_or, drop, ap, sym, subst, arith, inl, inr, Option, None, Some, Result, Ok, Err, ◌≢◌, append-nil, refl, ◌≤◌, ◌<◌, ◌+◌, ◌&&◌, ◌||◌, ◌⊎◌, Bool, true, false, max, rules}
 pub use Rattle.std.proofs.lemmas.List.{drop_all, drop_more}
+pub use Rattle.std.proofs.lemmas.Result.{MatchResult-weaker}
 pub use Rattle.std.specs.Borrow.{Bor}
 pub use Rattle.std.specs.Prelude.{IfErr, IsSome, OnOk}
 pub use Rattle.packed.specs.declared.fault.Fault.{Fault}
@@ -19,6 +20,6 @@ pub use Rattle.cli_names.specs.declared.source.OutlineOptions.{OutlineOptions}
 pub use Rattle.cli_regions.specs.Kept.{seen}
 pub use Rattle.cli_runs.specs.Printing.{HasPrinted, UnlessFailed}
 pub use Rattle.cli_runs.specs.Reports.{AreDeclared, AreSomeDeclared, IsListed, OfModel, AreNamed, HasEnded, IsFaultOut, IsPrinted, IsStopped, entered, everything, lead_of, style_of}
-pub use Rattle.cli_runs.specs.Runs.{AreCut, AreSent, IsReported, AreRun, AreRunAll, AreVisited, EndsAs, IsCutAmong, IsCutIn, IsNext, IsRun, is_input, IsCutAt}
+pub use Rattle.cli_runs.specs.Runs.{AreCut, AreSent, IsReported, AreRun, AreRunAll, AreVisited, IsCutAmong, IsCutIn, IsNext, IsRun, is_input}
 pub use Rattle.cli_runs.specs.declared.report.Listing.{Listing}
 pub use Rattle.cli_runs.specs.declared.report.Request.{Request}

@@ -1,5 +1,5 @@
 -- Runs on several files, one after another.
-use Rattle.cli_runs.proofs.Prelude.{◌≡◌, ◌<◌, ◌+◌, ◌&&◌, ◌||◌, ◌⊎◌, ℕ, Bool, true, false, Result, Ok, Err, List, [], ◌∷◌, ◌++◌, map, drop, get_or, length, max, Option, refl, arith, inl, inr, Bor, drop_more, Failure, NotUtf8, IsUnread, AreRun, AreRunAll, AreVisited, EndsAs, IsCutAmong, IsCutIn, IsNext, IsRun, is_input, Request}
+use Rattle.cli_runs.proofs.Prelude.{◌≡◌, ◌<◌, ◌+◌, ◌&&◌, ◌||◌, ◌⊎◌, ℕ, Bool, true, false, Err, List, [], ◌∷◌, ◌++◌, map, drop, get_or, length, max, Option, refl, arith, inl, inr, Bor, drop_more, Failure, NotUtf8, IsUnread, AreRun, AreRunAll, AreVisited, IsCutAmong, IsCutIn, IsNext, IsRun, is_input, Request}
 use Rattle.cli_faults.specs.Status.{status_of}
 use Rattle.cli_files.specs.Read.{IsRefused}
 use Rattle.cli_runs.specs.declared.report.Directories.TheVariants.{Walked}
@@ -11,12 +11,6 @@ names_of = map (λ name. name.now)
 pub unread_refused : (file : List ℕ) (failure : Failure) → IsUnread file failure → IsRefused file failure
 unread_refused file (NotUtf8 name) is = absurd is
 unread_refused file _ is = is
-
--- what follows from how a run ended
-pub ends_weaker : {E F : Type 0} (before after : E) (P Q : ℕ → Type 0) (cut other : Type 0) (result : Result ℕ F) → ((status : ℕ) → P status → Q status) → (cut → other)
-    → EndsAs before after P cut result → EndsAs before after Q other result
-ends_weaker before after P Q cut other (Ok status) ended failed out = (out.0, out.1, ended status out.2)
-ends_weaker before after P Q cut other (Err failure) ended failed out = failed out
 
 module _ (request : Request) {W : Type 0} (contents : W → Option (List ℕ)) where
   -- the run on an argument ended that is not the standard input again

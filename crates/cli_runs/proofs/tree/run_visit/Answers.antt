@@ -1,6 +1,6 @@
-use Rattle.cli_runs.proofs.Prelude.{[], arith, refl, subst, OutOfMemory}
+use Rattle.cli_runs.proofs.Prelude.{[], arith, refl, subst, MatchResult-weaker, OutOfMemory}
 use Rattle.cli_files.specs.Read.{IsVisit}
-use Rattle.cli_runs.proofs.Running.{ends_weaker, one_visited, unread_refused, unread_visited}
+use Rattle.cli_runs.proofs.Running.{one_visited, unread_refused, unread_visited}
 use Rattle.cli_runs.proofs.tree.run_visit.Goals as goal
 
 pub returns-in-Passed : goal.returns-in-Passed
@@ -9,8 +9,9 @@ returns-in-Passed g c = (omega arith, (λ is. refl), ([], (refl, refl)))
 pub returns-in-Ok-true : goal.returns-in-Ok-true
 returns-in-Ok-true g c =
     let path = c.in-File.path.now in
-    ends_weaker _ _ _ _ _ _ c.run_on_bytes.result (λ next ran. one_visited c.args.request.now g.W.Write.contents c.args.out.now c.run_on_bytes.new.out path next ran)
-    (λ cut. (c.args.out.now, 0, ([], (refl, refl)), (path, cut))) c.run_on_bytes.ensures
+    MatchResult-weaker c.run_on_bytes.result c.run_on_bytes.ensures
+    (λ next ran. (ran.0, ran.1, one_visited c.args.request.now g.W.Write.contents c.args.out.now c.run_on_bytes.new.out path next ran.2))
+    (λ failed cut. (c.args.out.now, 0, ([], (refl, refl)), (path, cut)))
 
 pub returns-in-Ok-false : goal.returns-in-Ok-false
 returns-in-Ok-false g c = (omega arith, (λ is. refl), ([], (refl, refl)))
