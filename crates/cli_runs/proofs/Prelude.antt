@@ -20,6 +20,6 @@ pub use Rattle.cli_names.specs.declared.source.OutlineOptions.{OutlineOptions}
 pub use Rattle.cli_regions.specs.Kept.{seen}
 pub use Rattle.cli_runs.specs.Printing.{HasPrinted, UnlessFailed}
 pub use Rattle.cli_runs.specs.Reports.{AreDeclared, AreSomeDeclared, IsListed, OfModel, AreNamed, HasEnded, IsFaultOut, IsPrinted, IsStopped, entered, everything, lead_of, style_of}
-pub use Rattle.cli_runs.specs.Runs.{AreCut, AreSent, IsReported, AreRun, AreRunAll, AreVisited, IsCutAmong, IsCutIn, IsNext, IsRun, is_input}
+pub use Rattle.cli_runs.specs.Runs.{AreCut, AreSent, IsReported, AreRun, AreVisited, IsCutIn, IsNext, IsRun, IsVisited, RunsOne, is_input}
 pub use Rattle.cli_runs.specs.declared.report.Listing.{Listing}
 pub use Rattle.cli_runs.specs.declared.report.Request.{Request}

@@ -1,7 +1,7 @@
 -- What a run prints of the bytes of one file, and of several files.
 use Rattle.std.specs.Prelude.{◌≡◌, ◌≤◌, ℕ, ◌-◌, ◌==◌, ◌⊎◌, ◌&&◌, ◌||◌, Bool, true, false, List, [], ◌∷◌, codes, drop, length, take, max, if◌then◌else◌, Option, Result, Ok, Err, IfErr, MatchResult, OnOk}
 use Rattle.std.specs.Io.KnownBytes.{Appends}
-use Rattle.std.specs.List.{slice_split}
+use Rattle.std.specs.List.{FoldsTo, slice_split}
 use Rattle.std.specs.Str.{bytes_eq}
 use Rattle.packed.specs.declared.code.FaultCode.{FaultCode}
 use Rattle.cli_faults.specs.Status.{IsOutput, status_of}
@@ -102,15 +102,17 @@ module _ (request : Request) {W : Type 0} (contents : W → Option (List ℕ)) w
   abbrev pub IsCutAt : W → W → List ℕ → Type 0
   IsCutAt before after name = (bytes : List ℕ) × (failure : Failure) × IsReported before after name bytes (Err failure)
 
-  -- the runs on these files ended, one after another, and the exit code is the greatest of theirs
-  abbrev pub AreRunAll : W → W → List (List ℕ) → ℕ → Type 0
-  AreRunAll before after [] status = (after ≡ before) × (status ≡ 0)
-  AreRunAll before after (name ∷ names) status =
-      (between : W) × (first later : ℕ) × IsRun before between name first × AreRunAll between after names later × (status ≡ max first later)
+  -- the run on a file ended, and the greatest exit code so far is that before it or its own
+  abbrev pub RunsOne : (W × ℕ) → List ℕ → (W × ℕ) → Type 0
+  RunsOne before name after = (status : ℕ) × IsRun before.0 after.0 name status × (after.1 ≡ max before.1 status)
 
-  -- the same for files that were found in a directory
+  -- the runs on files that were found in a directory ended, one after another, and the exit code is the greatest of theirs
   abbrev pub AreVisited : W → W → ℕ → Type 0
-  AreVisited before after status = (found : List (List ℕ)) × AreRunAll before after found status
+  AreVisited before after status = (found : List (List ℕ)) × FoldsTo RunsOne (before, 0) found (after, status)
+
+  -- the run on one of them ended, or it was passed over; for private clauses
+  abbrev pub IsVisited : W → W → ℕ → Type 0
+  IsVisited before after status = ((after ≡ before) × (status ≡ 0)) ⊎ ((name : List ℕ) × IsRun before after name status)
 
   -- the runs on some files ended, and the output failed at the next one
   abbrev pub IsCutAmong : W → W → Type 0
