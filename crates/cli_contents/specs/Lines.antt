@@ -23,18 +23,10 @@ use Rattle.cli_contents.specs.declared.lines.Kind.TheVariants.{Field, Method}
 
 -- ---- bodies of methods and data of fields (II.22.18, II.25.4)
 
--- the table, the cell with the name of a row (II.22.15, II.22.26), and the word for what is in the file
-abbrev pub table_of : Kind → TableId
-table_of Method = table.MethodDef
-table_of Field = table.Field
-
-abbrev pub name_in : Kind → ℕ
-name_in Method = 3
-name_in Field = 1
-
-abbrev pub word_for : Kind → List ℕ
-word_for Method = codes "method"
-word_for Field = codes "field"
+-- of a kind the table, the cell with the name of a row (II.22.15, II.22.26), and the word for what is in the file
+abbrev pub shape : Kind → TableId × ℕ × List ℕ
+shape Method = (table.MethodDef, 3, codes "method")
+shape Field = (table.Field, 1, codes "field")
 
 -- what a row refers to in the file
 abbrev pub content_of : Kind → Image → Metadata → ℕ → Option Body
@@ -58,7 +50,7 @@ content_line start size structure of named =
 
 -- what a row refers to, with the name of the row
 abbrev pub row_line : Kind → Metadata → ℕ → Body → List Part
-row_line kind model row of = content_line of.start of.size (word_for kind) (token_at (table_of kind) row) (text_in (cell_in model (table_of kind) row (name_in kind)))
+row_line kind model row of = content_line of.start of.size (shape kind).2 (token_at (shape kind).0 row) (text_in (cell_in model (shape kind).0 row (shape kind).1))
 
 -- the lines of the rows from one on and before another, each if what it refers to contains the byte at an offset of a file
 unfoldable pub lines_from : Kind → Image → Metadata → ℕ → ℕ → ℕ → List (List Part)
@@ -75,7 +67,7 @@ section_limit = 96
 
 -- the first of the lines of all rows, in their order
 abbrev pub first_lines : Kind → Image → Metadata → ℕ → List (List Part)
-first_lines kind image model offset = take content_limit (lines_from kind image model offset 1 (count_in model (table_of kind) + 1))
+first_lines kind image model offset = take content_limit (lines_from kind image model offset 1 (count_in model (shape kind).0 + 1))
 
 -- those of methods (II.22.26, II.25.4) and of fields with data (II.22.18), and none of a file with more sections
 abbrev pub content_lines : Image → Metadata → ℕ → List (List Part)

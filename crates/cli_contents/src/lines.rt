@@ -7,7 +7,7 @@ ghost use Rattle.pe.specs.Headers.{section_count};
 ghost use Rattle.pe.specs.Image.{Image, IsImage};
 ghost use Rattle.table_schema.specs.CellColumns.{cell_count};
 ghost use Rattle.cli_lines.specs.Printed.{Prints};
-ghost use Rattle.cli_contents.specs.Lines.{content_line, content_lines, content_with, first_lines, kept, name_in, row_line, section_limit, table_of, word_for};
+ghost use Rattle.cli_contents.specs.Lines.{content_line, content_lines, content_with, first_lines, kept, row_line, section_limit, shape};
 
 use crate::bodies::{Body, body_of};
 use crate::field_data::data_of;
@@ -42,10 +42,10 @@ pub(crate) enum Kind {
 /// The table, the cell with the name of a row (II.22.15, II.22.26), and the word for what is in the file.
 #[tactic(auto, unfolding(table_schema::specs::CellColumns::cell_columns))]
 fn shape(kind: Kind) -> (TableId, usize, &'static str)
-    ensures table { result.0 ≡ table_of kind }
-    ensures name { result.1 ≡ name_in kind }
+    ensures table { result.0 ≡ (shape kind).0 }
+    ensures name { result.1 ≡ (shape kind).1 }
     ensures within { result.1 < cell_count result.0 }
-    ensures word { result.2.now ≡ word_for kind }
+    ensures word { result.2.now ≡ (shape kind).2 }
 {
     match kind {
         Kind::Method => (TableId::MethodDef, 3, "method"),
@@ -75,7 +75,7 @@ fn content_with(
 ) -> Option<Body>
     requires small { length pe.now.bytes ≤ 2 ^ 30 }
     requires first { 1 ≤ row }
-    requires last { row ≤ row_count source.now.view.now (table_of kind) }
+    requires last { row ≤ row_count source.now.view.now (shape kind).0 }
     ensures { (model : Metadata) → IsModel source.now.view.now model → result ≡ content_with kind pe.now model offset row }
 {
     match kind {
@@ -112,7 +112,7 @@ pub(crate) fn print_content<'a, W: Write>(
 /// Prints the line of what a row refers to.
 fn print_row<W: Write>(view: &View<'_>, kind: Kind, row: u32, of: Body, out: &mut Printer<'_, W>)
     requires first { 1 ≤ row }
-    requires last { row ≤ row_count view.now (table_of kind) }
+    requires last { row ≤ row_count view.now (shape kind).0 }
     ensures { (model : Metadata) → IsModel view.now model → Prints out.old out.new (row_line kind model row of ∷ []) }
 {
     let (table, cell, word) = shape(kind);

@@ -1,7 +1,7 @@
 //! Prints the identities of assemblies, as .NET prints them (II.22.2 and II.22.5).
 ghost use Rattle.std.specs.Prelude.{◌≡◌, ◌≤◌, ◌∷◌, [], IfOk, Some, string_bytes};
 ghost use Rattle.std.specs.Fmt.{WritesOnOk};
-ghost use Rattle.cli_info.specs.Identities.{culture_text, display_byte, display_bytes, display_name, identity_line, identity_lines, needs_quotes, table_of, token_text};
+ghost use Rattle.cli_info.specs.Identities.{culture_text, display_byte, display_bytes, display_name, identity_line, identity_lines, needs_quotes, shape, token_text};
 ghost use Rattle.cli_lines.specs.Printed.{Prints};
 ghost use Rattle.metadata.specs.Metadata.{Metadata};
 ghost use Rattle.metadata.specs.Model.{IsModel};
@@ -40,17 +40,17 @@ pub(crate) enum Kind {
 impl Kind {
     ghost use Rattle.std.specs.Prelude.{◌<◌, ◌+◌};
     ghost use Rattle.table_schema.specs.CellColumns.{cell_count};
-    ghost use Rattle.cli_info.specs.Identities.{first_cell, has_token, name_of, table_of, word_of};
+    ghost use Rattle.cli_info.specs.Identities.{has_token, shape};
 
     /// The table, and the index of the cell with the major version. From it on eight cells are the same in both tables. The word
     /// and the name that its line begins with.
     #[tactic(auto, unfolding(table_schema::specs::CellColumns::cell_columns))]
     fn shape(self) -> (TableId, usize, &'static str, Name)
-        ensures table { result.0 ≡ table_of self }
-        ensures first { result.1 ≡ first_cell self }
+        ensures table { result.0 ≡ (shape self).0 }
+        ensures first { result.1 ≡ (shape self).1 }
         ensures within { result.1 + 7 < cell_count result.0 }
-        ensures word { result.2.now ≡ word_of self }
-        ensures name { result.3 ≡ name_of self }
+        ensures word { result.2.now ≡ (shape self).2 }
+        ensures name { result.3 ≡ (shape self).3 }
     {
         match self {
             Kind::Assembly => (TableId::Assembly, 1, "assembly ", Name::Assembly),
@@ -219,7 +219,7 @@ fn print_identity<'a, W: Write>(
     out: &mut Printer<'_, W>,
 )
     requires first { 1 ≤ row }
-    requires last { row ≤ row_count view.now (table_of kind) }
+    requires last { row ≤ row_count view.now (shape kind).0 }
     ensures { (model : Metadata) → IsModel view.now model → Prints out.old out.new (identity_line kind model row ∷ []) }
 {
     let (table, first, word, name) = kind.shape();

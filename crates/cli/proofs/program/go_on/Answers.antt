@@ -14,8 +14,8 @@ returns-in-Ok-task_of-clause-quiet g c =
       | inr warns ↦ inr (c.in-Ok.ask, c.in-Ok.ensures.given, (c.in-Ok-task_of.task, c.in-Ok-task_of.ensures, warns))
     ]
 
-pub returns-in-Err-task_of-clause-run : goal.returns-in-Err-task_of-clause-run
-returns-in-Err-task_of-clause-run g c =
+pub returns-in-Ok-clause-run : goal.returns-in-Ok-clause-run
+returns-in-Ok-clause-run g c =
     inl (c.in-Ok.ask, c.in-Ok.ensures.given, (Err c.in-Err-task_of.failure, c.in-Err-task_of.ensures, (c.status.ensures.status ∙ ap status_of_stop c.from.ensures.0, refl)))
 
 pub returns-in-Err-clause-run : goal.returns-in-Err-clause-run
