@@ -1,5 +1,5 @@
 -- What a run prints of the bytes of one file, and of several files.
-use Rattle.std.specs.Prelude.{◌≡◌, ◌≤◌, ℕ, ◌-◌, ◌==◌, ◌⊎◌, ◌&&◌, ◌||◌, Bool, true, false, List, [], ◌∷◌, codes, drop, length, take, max, if◌then◌else◌, Option, Result, Ok, Err, IfErr, MatchResult, OnOk}
+use Rattle.std.specs.Prelude.{◌≡◌, ◌≤◌, ℕ, ◌-◌, ◌==◌, ◌⊎◌, ◌&&◌, ◌||◌, Bool, true, false, List, [], ◌∷◌, codes, drop, length, take, max, if◌then◌else◌, Option, Result, Ok, Err, MatchResult}
 use Rattle.std.specs.Io.KnownBytes.{Appends}
 use Rattle.std.specs.List.{FoldsTo, slice_split}
 use Rattle.std.specs.Str.{bytes_eq}
@@ -70,10 +70,10 @@ module _ {W : Type 0} (contents : W → Option (List ℕ)) (before after : W) (b
       × SendsPrefix (contents before) (contents after) content)
 
   -- the content of the first resource with this name was written (ECMA-335 II.22.24); or it stopped, with a hint if there is one
-  pub record IsExtracting (outcome : Outcome) : Type 0 where
-    pub done : OnOk outcome ((content : List ℕ) × IsContentOf bytes name content × Appends (contents before) (contents after) content)
-    pub stopped : IfErr outcome (λ stopped. IsUnextracted stopped.stop)
-    pub hint : IfErr outcome (λ stopped. stopped.hint ≡ hint_for File bytes stopped.stop)
+  abbrev pub IsExtracting : Outcome → Type 0
+  IsExtracting outcome =
+      MatchResult outcome (λ done. (content : List ℕ) × IsContentOf bytes name content × Appends (contents before) (contents after) content)
+      (λ stopped. IsUnextracted stopped.stop × (stopped.hint ≡ hint_for File bytes stopped.stop))
 
 module _ (request : Request) {W : Type 0} (contents : W → Option (List ℕ)) where
   -- these lines of a report on the file with this name went out
