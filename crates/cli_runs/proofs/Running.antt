@@ -1,5 +1,5 @@
 -- Runs on several files, one after another.
-use Rattle.cli_runs.proofs.Prelude.{◌≡◌, ◌<◌, ◌+◌, ◌&&◌, ◌||◌, ◌⊎◌, ℕ, Bool, true, false, Err, List, [], ◌∷◌, ◌++◌, map, drop, get_or, length, max, Option, refl, arith, inl, inr, Bor, drop_more, Failure, NotUtf8, IsUnread, AreRun, AreVisited, IsCutIn, IsNext, IsRun, IsVisited, RunsOne, is_input, Request}
+use Rattle.cli_runs.proofs.Prelude.{◌≡◌, ◌<◌, ◌+◌, ◌&&◌, ◌||◌, ◌⊎◌, ℕ, Bool, true, false, List, [], ◌∷◌, ◌++◌, map, drop, get_or, length, max, Option, refl, arith, inl, inr, Bor, drop_more, Failure, NotUtf8, IsUnread, AreRun, AreVisited, IsCutIn, IsNext, IsRun, IsVisited, RunsOne, is_input, Request}
 use Rattle.std.proofs.lemmas.Fn.{FoldsTo-push}
 use Rattle.cli_files.specs.Read.{IsRefused}
 use Rattle.cli_runs.specs.declared.report.Directories.TheVariants.{Walked}
