@@ -1,13 +1,12 @@
 //! Prints the lines of methods, and of fields with data.
-ghost use Rattle.std.specs.Prelude.{◌≡◌, ◌<◌, ◌≤◌, ◌∷◌, ◌^◌, [], IfSome, MatchOption, false, length, nat_le, true};
+ghost use Rattle.std.specs.Prelude.{◌≡◌, ◌<◌, ◌≤◌, ◌∷◌, ◌^◌, [], length};
 ghost use Rattle.metadata.specs.Metadata.{Metadata};
 ghost use Rattle.metadata.specs.Model.{IsModel};
 ghost use Rattle.opening.specs.Views.{row_count};
-ghost use Rattle.pe.specs.Headers.{section_count};
 ghost use Rattle.pe.specs.Image.{Image, IsImage};
 ghost use Rattle.table_schema.specs.CellColumns.{cell_count};
 ghost use Rattle.cli_lines.specs.Printed.{Prints};
-ghost use Rattle.cli_contents.specs.Lines.{content_line, content_lines, content_with, first_lines, kept, row_line, section_limit, shape};
+ghost use Rattle.cli_contents.specs.Lines.{content_line, content_lines, content_with, first_lines, kept, row_line, shape};
 
 use crate::bodies::{Body, body_of};
 use crate::field_data::data_of;
@@ -148,22 +147,6 @@ fn print_first<W: Write>(
     }
 }
 
-/// The image of a file, if it has no more than 96 sections.
-fn image_in(file: &[u8]) -> Option<Pe<'_>>
-    ensures image { (image : Image) → IsImage file.now image
-        → MatchOption result (nat_le (section_count image.bytes) section_limit ≡ false) (λ pe. (pe ≡ image) × (nat_le (section_count image.bytes) section_limit ≡ true)) }
-    ensures small { IfSome result (λ pe. length pe.bytes ≤ 2 ^ 30) }
-{
-    let Ok(pe) = read_pe(file) else {
-        return None;
-    };
-    if Headers::read(file).section_count() <= SECTION_LIMIT {
-        Some(pe)
-    } else {
-        None
-    }
-}
-
 /// Prints a line for each of the first ten methods whose bodies contain the byte at an offset of a file: the file offset and
 /// the size of the body, with its header and its data sections (II.25.4), and the token and the name of the method. Then it
 /// prints one for each of the first ten fields whose data contains the byte (II.22.18). If the size of data is not known, it
@@ -183,9 +166,12 @@ pub fn print_contents<W: Write>(
     ensures { (image : Image) → IsImage file.now image → (model : Metadata) → IsModel view.now model → Prints out.old out.new (content_lines image model offset) }
 {
     cli_lines::laws::lines_follow::<W>();
-    let Some(pe) = image_in(file) else {
+    let Ok(pe) = read_pe(file) else {
         return;
     };
+    if Headers::read(file).section_count() > SECTION_LIMIT {
+        return;
+    }
     let Ok(source) = Neighbours::new(alloc, view) else {
         return out.fail();
     };
