@@ -1,7 +1,6 @@
 -- What several proofs of this crate name of std, of the crates below, and of its own definitions.
-pub use Rattle.std.proofs.Common.{◌≡◌, ℕ, suc, ◌+◌, ◌-◌, ◌<◌, ◌≤◌, List, [], ◌∷◌, ◌++◌, true, false, arith, None, length, nat_le, option_map, option_to_list, refl, take}
+pub use Rattle.std.proofs.Common.{◌≡◌, ℕ, suc, ◌+◌, ◌-◌, ◌<◌, ◌≤◌, List, [], ◌∷◌, ◌++◌, true, false, arith, None, length, nat_le, option_map, option_to_list, refl, take, take_all}
 pub use Rattle.std.proofs.lemmas.Bool.{le-leb, lt-leb}
-pub use Rattle.std.proofs.lemmas.List.{take_all}
 pub use Rattle.pe.specs.Image.{Image}
 pub use Rattle.table_schema.specs.declared.table.TableId.TheVariants.{Field}
 pub use Rattle.metadata.specs.Metadata.{Metadata, cell_in}

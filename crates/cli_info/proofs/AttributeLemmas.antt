@@ -1,9 +1,8 @@
 -- The attributes of the assembly, by their types and by their rows.
-use Rattle.cli_info.proofs.Prelude.{◌≡◌, ◌≤◌, ◌<◌, ◌+◌, ℕ, Bool, Option, None, Some, List, [], ◌∷◌, ◌++◌, cond, length, ap, append-nil, arith, length_push, refl, Metadata, Token, attribute_limit, attribute_lines, is_own, lines_of_items, lines_of_rows, own_rows}
+use Rattle.cli_info.proofs.Prelude.{◌≡◌, ◌≤◌, ◌<◌, ◌+◌, ℕ, Bool, Option, None, Some, List, [], ◌∷◌, ◌++◌, cond, length, flat_map, ap, append-nil, arith, length_push, refl, Metadata, Token, attribute_limit, attribute_lines, is_own, lines_of_items, lines_of_rows, own_rows}
 use Rattle.std.proofs.lemmas.Grind.{flat_map-append}
 use Rattle.std.proofs.lemmas.List.{map-id, take-append-le, take_all}
 use Rattle.std.proofs.lemmas.List.FromFn.{filter_of_map_range_with_len_more}
-use Rattle.std.specs.Prelude.{flat_map}
 
 pub no_items : (model : Metadata) (class : Option Token) → lines_of_items model class None ≡ []
 no_items model None = refl

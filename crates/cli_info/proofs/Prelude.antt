@@ -1,10 +1,8 @@
 -- What several proofs of this crate name of std, of the crates below, and of its own definitions.
-pub use Rattle.std.proofs.Common.{◌≡◌, ◌∙◌, ◌≤◌, ◌<◌, ◌+◌, ℕ, Bool, Option, None, Some, List, [], ◌∷◌, ◌++◌, append-nil, cond, length, map, ap, arith, refl, sym}
-pub use Rattle.std.proofs.lemmas.Bool.{le-ltb, lt-ltb}
+pub use Rattle.std.proofs.Common.{◌≡◌, ◌∙◌, ◌≤◌, ◌<◌, ◌+◌, ℕ, Bool, Option, None, Some, List, [], ◌∷◌, ◌++◌, append-nil, cond, length, map, flat_map, ap, arith, below_more, refl, sym, le-ltb, lt-ltb}
 pub use Rattle.std.proofs.lemmas.List.{length_push}
 pub use Rattle.std.proofs.lemmas.List.FromFn.{map-range_with_len_more}
 pub use Rattle.std.specs.List.{list_all, range_with_len}
-pub use Rattle.std.specs.Prelude.{flat_map}
 pub use Rattle.table_schema.specs.declared.table.TableId.TheVariants.{Module, AssemblyRef, CustomAttribute, ExportedType, File, ManifestResource}
 pub use Rattle.table_schema.specs.declared.token.Token.{Token}
 pub use Rattle.blob_values.specs.Views.{view}

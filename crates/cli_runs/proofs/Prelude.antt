@@ -1,9 +1,7 @@
 -- What several proofs of this crate name of std, of the crates below, and of its own definitions.
-pub use Rattle.std.proofs.Common.{◌≡◌, ◌∙◌, ℕ, List, [], ◌∷◌, ◌++◌, map, length, get_or, drop, ap, sym, subst, arith, inl, inr, Option, None, Some, Result, Ok, Err, ◌≢◌, append-nil, refl, ◌≤◌, ◌<◌, ◌+◌, ◌&&◌, ◌||◌, ◌⊎◌, Bool, true, false, max, rules}
+pub use Rattle.std.proofs.Common.{◌≡◌, ◌∙◌, ℕ, List, [], ◌∷◌, ◌++◌, map, length, get_or, drop, ap, sym, subst, arith, inl, inr, Option, None, Some, Result, Ok, Err, ◌≢◌, append-nil, refl, ◌≤◌, ◌<◌, ◌+◌, ◌&&◌, ◌||◌, ◌⊎◌, Bool, true, false, max, rules, IfErr, IsSome, OnOk, Bor}
 pub use Rattle.std.proofs.lemmas.List.{drop_all, drop_more}
 pub use Rattle.std.proofs.lemmas.Result.{MatchResult-weaker}
-pub use Rattle.std.specs.Borrow.{Bor}
-pub use Rattle.std.specs.Prelude.{IfErr, IsSome, OnOk}
 pub use Rattle.packed.specs.declared.fault.Fault.{Fault}
 pub use Rattle.table_schema.specs.declared.token.Token.{Token}
 pub use Rattle.metadata.specs.Metadata.{Metadata}

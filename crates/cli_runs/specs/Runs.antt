@@ -1,8 +1,7 @@
 -- What a run prints of the bytes of one file, and of several files.
-use Rattle.std.specs.Prelude.{◌≡◌, ◌≤◌, ℕ, ◌-◌, ◌==◌, ◌⊎◌, ◌&&◌, ◌||◌, Bool, true, false, List, [], ◌∷◌, codes, drop, length, take, max, if◌then◌else◌, Option, Result, Ok, Err, MatchResult}
+use Rattle.std.specs.Prelude.{◌≡◌, ◌≤◌, ℕ, ◌-◌, ◌==◌, ◌⊎◌, ◌&&◌, ◌||◌, Bool, true, false, List, [], ◌∷◌, codes, drop, length, take, max, if◌then◌else◌, Option, Result, Ok, Err, MatchResult, bytes_eq}
 use Rattle.std.specs.Io.KnownBytes.{Appends}
 use Rattle.std.specs.List.{FoldsTo, slice_split}
-use Rattle.std.specs.Str.{bytes_eq}
 use Rattle.packed.specs.declared.code.FaultCode.{FaultCode}
 use Rattle.cli_faults.specs.Status.{IsOutput, status_of}
 use Rattle.cli_faults.specs.Stops.{status_of_stop}

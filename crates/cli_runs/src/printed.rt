@@ -1,6 +1,5 @@
 //! Prints a report on the bytes of a file, and what rules say.
-ghost use Rattle.std.specs.Prelude.{◌≡◌, ◌≤◌};
-ghost use Rattle.std.specs.Option.{option_map};
+ghost use Rattle.std.specs.Prelude.{◌≡◌, ◌≤◌, option_map};
 ghost use Rattle.cli_runs.specs.Reports.{label, lead_of};
 ghost use Rattle.cli_runs.specs.Runs.{IsExplained, IsReported};
 

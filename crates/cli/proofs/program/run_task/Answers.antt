@@ -1,5 +1,4 @@
-use Rattle.std.proofs.Common.{inl, inr}
-use Rattle.std.specs.Prelude.{option_map}
+use Rattle.std.proofs.Common.{inl, inr, option_map}
 use Rattle.cli_roots.specs.Embedded.{IsEmbedding, WarnsOf}
 use Rattle.cli.proofs.EmbedRuns.{embed_run}
 use Rattle.cli.proofs.program.run_task.Goals as goal

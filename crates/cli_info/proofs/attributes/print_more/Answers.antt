@@ -1,4 +1,4 @@
-use Rattle.std.proofs.lemmas.Bool.{ne_eqb}
+use Rattle.std.proofs.Common.{ne_eqb}
 use Rattle.cli_info.proofs.attributes.print_more.Goals as goal
 
 pub returns-then-number-eq0 : goal.returns-then-number-eq0
