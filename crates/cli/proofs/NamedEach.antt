@@ -1,7 +1,6 @@
 -- What arguments name, one after another.
-use Rattle.cli.proofs.Prelude.{◌+◌, ◌<◌, ◌≡◌, ℕ, List, [], ◌∷◌, ◌++◌, All, get_or, length, take, drop, suc, Bor, split_at, take_more, All-cons, All-nil, NameEach}
+use Rattle.cli.proofs.Prelude.{◌+◌, ◌<◌, ◌≡◌, ℕ, List, [], ◌∷◌, ◌++◌, All, get_or, length, take, drop, suc, Bor, split_at, take_more, All-cons, All-nil, NameEach, IsFirstUnknown}
 use Rattle.std.proofs.lemmas.Slice.Zip.{all_zipped_more}
-use Rattle.cli.specs.Tasks.{IsFirstUnknown}
 
 module _ {X : Type 0} (Names : List ℕ → X → Type 0) where
   -- one more argument names one

@@ -9,5 +9,6 @@ unfoldable pub use Rattle.table_schema.specs.Tables.{tables}
 pub use Rattle.table_schema.specs.declared.table.TableId.{TableId}
 pub use Rattle.comparison.specs.Ignored.{AreOthersSame}
 unfoldable pub use Rattle.comparison.specs.Ignored.{is_ignored}
+pub use Rattle.cli_names.specs.Names.{NamesCode}
 pub use Rattle.cli.specs.Columns.{AreNamed, NamesColumn, NamesIgnored, NamesSome}
-pub use Rattle.cli.specs.Tasks.{NameEach}
+pub use Rattle.cli.specs.Tasks.{NameEach, HasNumber, IsFirstUnknown}

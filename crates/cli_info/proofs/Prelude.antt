@@ -17,4 +17,4 @@ unfoldable pub use Rattle.cli_info.specs.InfoLines.{counts_line, image_line, mod
 pub use Rattle.cli_header.specs.declared.header.CliHeader.{CliHeader}
 pub use Rattle.table_schema.specs.declared.table.TableId.{TableId}
 pub use Rattle.file_ranges.specs.Resources.{seen, IsDirectoryOf, Where}
-pub use Rattle.cli_info.specs.Resources.{holder, resource_line, AreLocations, IsLocated}
+pub use Rattle.cli_info.specs.Resources.{holder, resource_line, AreLocations, IsLocated, OfFile}

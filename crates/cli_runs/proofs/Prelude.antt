@@ -6,6 +6,7 @@ pub use Rattle.packed.specs.declared.fault.Fault.{Fault}
 pub use Rattle.table_schema.specs.declared.token.Token.{Token}
 pub use Rattle.metadata.specs.Metadata.{Metadata}
 pub use Rattle.cli_faults.specs.Status.{IsOutput, IsUnread}
+pub use Rattle.cli_faults.specs.Stops.{status_of_stop}
 pub use Rattle.cli_faults.specs.declared.failure.Failure.{Failure}
 pub use Rattle.cli_faults.specs.declared.failure.Failure.TheVariants.{NotUtf8, OutOfMemory}
 pub use Rattle.cli_sending.specs.Sent.{Sent}
@@ -17,7 +18,7 @@ pub use Rattle.cli_lines.specs.Printed.{Printed, Prints, Asked}
 pub use Rattle.cli_names.specs.declared.source.OutlineOptions.{OutlineOptions}
 pub use Rattle.cli_regions.specs.Kept.{seen}
 pub use Rattle.cli_runs.specs.Printing.{HasPrinted, UnlessFailed}
-pub use Rattle.cli_runs.specs.Reports.{AreDeclared, AreSomeDeclared, IsListed, OfModel, AreNamed, HasEnded, IsFaultOut, IsPrinted, IsStopped, entered, everything, lead_of, style_of}
+pub use Rattle.cli_runs.specs.Reports.{AreDeclared, AreSomeDeclared, IsListed, OfModel, AreNamed, HasEnded, IsFaultOut, IsPrinted, IsStopped, entered, everything, lead_of, style_of, IsRefused}
 pub use Rattle.cli_runs.specs.Runs.{AreCut, AreSent, IsReported, AreRun, AreVisited, IsCutIn, IsNext, IsRun, IsVisited, RunsOne, is_input}
 pub use Rattle.cli_runs.specs.declared.report.Listing.{Listing}
 pub use Rattle.cli_runs.specs.declared.report.Request.{Request}

@@ -1,5 +1,4 @@
-use Rattle.cli.proofs.Prelude.{get_or, refl, take_all}
-use Rattle.cli_names.specs.Names.{NamesCode}
+use Rattle.cli.proofs.Prelude.{get_or, refl, take_all, NamesCode}
 use Rattle.cli.proofs.NamedEach.{first_unknown, next_named}
 use Rattle.cli.proofs.task.explain_of.Goals as goal
 

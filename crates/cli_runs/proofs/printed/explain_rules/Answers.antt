@@ -1,5 +1,4 @@
-use Rattle.cli_runs.proofs.Prelude.{◌∙◌, [], ap, inl, inr, refl, rules, subst, report_text, Sent}
-use Rattle.cli_faults.specs.Stops.{status_of_stop}
+use Rattle.cli_runs.proofs.Prelude.{◌∙◌, [], ap, inl, inr, refl, rules, subst, report_text, Sent, status_of_stop}
 use Rattle.cli_runs.proofs.printed.explain_rules.Goals as goal
 
 pub returns-in-Ok-clause-run : goal.returns-in-Ok-clause-run
