@@ -8,7 +8,7 @@ pub use Rattle.metadata.specs.Model.{IsModel}
 pub use Rattle.file_ranges.specs.Resources.{here}
 pub use Rattle.cli_lines.specs.Lines.{Part}
 pub use Rattle.cli_lines.specs.Printed.{Printed, Prints}
-pub use Rattle.cli_contents.specs.FieldData.{field_type}
+pub use Rattle.cli_contents.specs.Contents.{field_type}
 pub use Rattle.cli_contents.specs.Lines.{content_with, first_lines, row_line, resource_line}
 unfoldable pub use Rattle.cli_contents.specs.Lines.{lines_from}
 pub use Rattle.cli_contents.specs.declared.lines.Kind.{Kind}

@@ -14,9 +14,8 @@ use Rattle.metadata.specs.Metadata.{Metadata, cell_in, count_in}
 use Rattle.file_ranges.specs.Resources.{HasByte, IsFirstWithByte}
 use Rattle.cli_lines.specs.Lines.{Part, field, number, plain, text, token, word}
 use Rattle.cli_lines.specs.declared.names.Name.TheVariants as name
-use Rattle.cli_contents.specs.Bodies.{body_of}
-use Rattle.cli_contents.specs.FieldData.{data_of}
-use Rattle.cli_contents.specs.declared.bodies.Body.{Body}
+use Rattle.cli_contents.specs.Contents.{body_of, data_of}
+use Rattle.cli_contents.specs.declared.contents.Body.{Body}
 use Rattle.cli_contents.specs.declared.lines.Kind.{Kind}
 use Rattle.cli_contents.specs.declared.lines.Kind.TheVariants.{Field, Method}
 

@@ -14,8 +14,7 @@
 //! ```
 #![tactic(auto)]
 
-mod bodies;
-mod field_data;
+mod contents;
 mod lines;
 mod resource_line;
 

@@ -8,8 +8,7 @@ ghost use Rattle.table_schema.specs.CellColumns.{cell_count};
 ghost use Rattle.cli_lines.specs.Printed.{Prints};
 ghost use Rattle.cli_contents.specs.Lines.{content_line, content_lines, content_with, first_lines, kept, row_line, shape};
 
-use crate::bodies::{Body, body_of};
-use crate::field_data::data_of;
+use crate::contents::{Body, body_of, data_of};
 use cli_lines::Part::{Field, Word};
 use cli_lines::Value::{self, Number, Plain, Text};
 use cli_lines::{Name, Printer};

@@ -1,7 +1,7 @@
--- The data of fields in a file, and its size (ECMA-335 II.22.8, II.22.18 and II.23.1.16).
-use Rattle.std.specs.Prelude.{ℕ, ◌+◌, nat_le, if◌then◌else◌, List, [], ◌∷◌, Option, None, Some, length, option_and_then}
+-- The bodies of methods and the data of fields in a file, and the size of data (ECMA-335 II.22.8, II.22.18, II.22.26, II.23.1.16, II.25.4).
+use Rattle.std.specs.Prelude.{ℕ, ◌+◌, ◌%◌, ◌==◌, nat_le, if◌then◌else◌, List, [], ◌∷◌, Option, None, Some, drop, length, option_and_then, option_map}
 use Rattle.table_schema.specs.declared.table.TableId.{TableId}
-use Rattle.table_schema.specs.declared.table.TableId.TheVariants.{ClassLayout, Field, FieldRVA, TypeDef}
+use Rattle.table_schema.specs.declared.table.TableId.TheVariants.{ClassLayout, Field, FieldRVA, MethodDef, TypeDef}
 use Rattle.table_schema.specs.Tokens.{token_at}
 use Rattle.sig_items.specs.declared.item.Item.{Item}
 use Rattle.sig_items.specs.declared.item.Item.TheVariants as item
@@ -13,7 +13,21 @@ use Rattle.navigation.specs.Linked.{first_linked}
 use Rattle.navigation.specs.declared.links.Link.TheVariants as link_of
 use Rattle.custom_attributes.specs.Signatures.{items_in}
 use Rattle.cli_values.specs.Constants.{size_of}
-use Rattle.cli_contents.specs.declared.bodies.Body.{Body}
+use Rattle.file_ranges.specs.Bodies.{body_end}
+use Rattle.cli_contents.specs.declared.contents.Body.{Body}
+
+-- the body of a method that begins at an offset of a file (II.25.4)
+abbrev pub body_from : List ℕ → ℕ → Option Body
+body_from file start = option_map (λ size. record { start = start; size = size }) (body_end (drop start file))
+
+-- The body of a method by its address and its ImplFlags: it has one if the address is not 0 and is in the file, and if the
+-- low two bits of the flags say that it is code of CIL (II.23.1.10).
+unfoldable pub body_at : Image → ℕ → ℕ → Option Body
+body_at image rva flags =
+    if rva == 0 then None else (if flags % 4 == 0 then option_and_then (body_from image.bytes) (offset_at image rva 1) else None)
+
+abbrev pub body_of : Image → Metadata → ℕ → Option Body
+body_of image model row = body_at image (number_in (cell_in model MethodDef row 0)) (number_in (cell_in model MethodDef row 1))
 
 -- ClassSize in a row of ClassLayout (II.22.8); 0 if there is no row
 abbrev pub layout_size : Metadata → Option ℕ → ℕ
