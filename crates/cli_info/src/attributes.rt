@@ -7,6 +7,7 @@ ghost use Rattle.blob_values.specs.Views.{head_view, view};
 ghost use Rattle.metadata.specs.Metadata.{Metadata};
 ghost use Rattle.metadata.specs.Model.{IsModel};
 ghost use Rattle.opening.specs.Views.{row_count};
+ghost use Rattle.cli_lines.specs.Lines.{note};
 ghost use Rattle.cli_lines.specs.Printed.{Adds, Prints};
 ghost use Rattle.cli_lines.specs.Shown.{shown_value};
 ghost use Rattle.cli_info.specs.Attributes.{are_texts, argument_parts, attribute_lines, attributes_lines, first_parts, has_types, is_assembly, is_own, is_text, item_parts, items_parts, lines_of_type, more_lines, string_in, texts_in};
@@ -86,7 +87,7 @@ fn texts_in<'a, 'p>(value: &'a [u8], params: &'p [ArgumentType]) -> Option<Items
 
 /// Adds an argument, if it is a string, after what is before it.
 fn print_argument<W: Write>(before: &str, argument: Argument<'_>, out: &mut Printer<'_, W>)
-    ensures { Adds out.old out.new (argument_parts before.now (string_in (head_view argument.entry))) }
+    ensures { Adds out.old out.new (argument_parts before.now note (string_in (head_view argument.entry))) }
 {
     cli_lines::laws::parts_follow::<W>();
     if let Some(text) = string_in(argument) {
