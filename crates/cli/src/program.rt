@@ -3,7 +3,7 @@ ghost use Rattle.std.specs.Prelude.{◌≡◌, ◌≤◌, ◌⊎◌, map};
 ghost use Rattle.clap.specs.Words.{kind_of};
 ghost use Rattle.cli_arguments.specs.Asked.{Gives};
 ghost use Rattle.cli_arguments.specs.declared.asked.Ask.{Ask as Asked};
-ghost use Rattle.cli.specs.Runs.{AsksToWarn, IsRunOf, IsUsage, MayWarn, Ran, form_on, path_of, request_on};
+ghost use Rattle.cli.specs.Runs.{AsksToWarn, IsRunOf, IsUsage, MayWarn, Ran, form_on, path_of};
 
 use crate::task::{Task, form_of, input_of, task_of};
 use crate::usage_text::usage_text;
@@ -13,7 +13,7 @@ use cli_faults::printed;
 use cli_files::{STANDARD_INPUT, Stopped, out_of_memory, status};
 use cli_lines::Form;
 use cli_roots::{compare_files, embed_file, rewrite_file};
-use cli_runs::{Request, explain_rules, extract_file, run_files, run_listed};
+use cli_runs::{explain_rules, extract_file, run_files, run_listed};
 use cli_sending::finish;
 use std::alloc::Global;
 use std::io::Write;
@@ -39,15 +39,6 @@ fn form_on(terminal: Terminal, subcommand: Subcommand, form: Form) -> Form
         | (Terminal::Utf8, Subcommand::Resources, Form::Text) => Form::Letters,
         _ => form,
     }
-}
-
-/// What is asked of each file, on a terminal.
-fn request_on<'a>(terminal: Terminal, subcommand: Subcommand, request: Request<'a>) -> Request<'a>
-    ensures { result ≡ request_on terminal subcommand request.entry }
-{
-    let mut request = request;
-    request.form = form_on(terminal, subcommand, request.form);
-    request
 }
 
 /// Runs the program on its arguments, the program name first, and returns the exit code:
@@ -144,12 +135,12 @@ fn run_task<R: Files + Input + AllocGlobal, W: Write, E: Write>(
 {
     let alloc = rt.alloc();
     match task {
-        Task::OnFiles(request) => {
-            let request = request_on(terminal, ask.subcommand, request);
+        Task::OnFiles(mut request) => {
+            request.form = form_on(terminal, ask.subcommand, request.form);
             run_files(rt, &request, ask.files.as_slice(), out, err)
         }
-        Task::OnList(request, list, separator) => {
-            let request = request_on(terminal, ask.subcommand, request);
+        Task::OnList(mut request, list, separator) => {
+            request.form = form_on(terminal, ask.subcommand, request.form);
             run_listed(rt, &request, path_of(list), separator, out, err)
         }
         Task::Rewrite(file, path) => {
