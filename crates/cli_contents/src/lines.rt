@@ -1,18 +1,21 @@
-//! Prints the lines of methods, and of fields with data.
-ghost use Rattle.std.specs.Prelude.{◌≡◌, ◌<◌, ◌≤◌, ◌∷◌, ◌^◌, [], length};
+//! Prints the lines of methods, of fields with data, and of a resource.
+ghost use Rattle.std.specs.Prelude.{◌≡◌, ◌<◌, ◌≤◌, ◌∷◌, ◌^◌, [], List, length};
+ghost use Rattle.cli_header.specs.declared.header.CliHeader.{CliHeader as Header};
 ghost use Rattle.metadata.specs.Metadata.{Metadata};
-ghost use Rattle.metadata.specs.Model.{IsModel};
+ghost use Rattle.metadata.specs.Model.{IsModel, IsModelOfFile};
 ghost use Rattle.opening.specs.Views.{row_count};
 ghost use Rattle.pe.specs.Image.{Image, IsImage};
 ghost use Rattle.table_schema.specs.CellColumns.{cell_count};
+ghost use Rattle.cli_lines.specs.Lines.{Part as ThePart};
 ghost use Rattle.cli_lines.specs.Printed.{Prints};
-ghost use Rattle.cli_contents.specs.Lines.{content_line, content_lines, content_with, first_lines, kept, row_line, shape};
+ghost use Rattle.cli_contents.specs.Lines.{AreOfResources, content_line, content_lines, content_with, first_lines, kept, row_line, shape};
 
 use crate::contents::{Body, body_of, data_of};
+use cli_header::read_cli;
 use cli_lines::Part::{Field, Word};
 use cli_lines::Value::{self, Number, Plain, Text};
 use cli_lines::{Name, Printer};
-use file_ranges::Headers;
+use file_ranges::{Headers, Location, NotWithin, directory_of, location_of, resource_at};
 use navigation::Neighbours;
 use opening::{TableId, Token, View, text_or_empty};
 use pe::{Pe, read_pe};
@@ -24,6 +27,9 @@ const LIMIT: usize = 10;
 
 /// The largest number of sections of a file whose methods and fields are printed: that of Windows' loader, by Microsoft's PE format.
 const SECTION_LIMIT: usize = 96;
+
+/// The index of the cell with the name of a resource (II.22.24).
+const RESOURCE_NAME: usize = 2;
 
 /// How many bytes are known of data of a size that is not known.
 const KNOWN: usize = 1;
@@ -176,4 +182,37 @@ pub fn print_contents<W: Write>(
     };
     print_first(&pe, &source, Kind::Method, offset, out);
     print_first(&pe, &source, Kind::Field, offset, out);
+}
+
+/// Prints a line for the first resource in a file whose content contains the byte at an offset of it: the file offset and the
+/// size of the content, and the token and the name of the resource.
+///
+/// In JSON it is `{"offset":2364,"size":7,"structure":"resource","token":"28000001","name":"notes.txt"}`.
+#[tactic(auto, unfolding(table_schema::specs::CellColumns::cell_columns))]
+pub fn print_resource<W: Write>(file: &[u8], view: &View<'_>, offset: u64, out: &mut Printer<'_, W>)
+    ensures { (header : Header) (model : Metadata) → IsModelOfFile file.now header model → IsModel view.now model
+        → (lines : List (List ThePart)) × AreOfResources file.now header model offset lines × Prints out.old out.new lines }
+{
+    cli_lines::laws::lines_follow::<W>();
+    let Ok(pe) = read_pe(file) else {
+        return;
+    };
+    let Ok(header) = read_cli(&pe) else {
+        return;
+    };
+    let directory = directory_of(file, &header);
+    let Some(row) = resource_at(directory, view, offset) else {
+        return;
+    };
+    match location_of(directory, view, row) {
+        Ok(Location::Here(content)) => {
+            let table = TableId::ManifestResource;
+            let name = text_or_empty(view, table, row, RESOURCE_NAME);
+            let size = content.bytes.len() as u64;
+            let resource = Token { table, row };
+            print_content(content.offset, size, "resource", resource, name, out);
+        }
+        Ok(Location::Elsewhere(_)) => {}
+        Err(NotWithin) => {}
+    }
 }
