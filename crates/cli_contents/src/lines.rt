@@ -90,7 +90,7 @@ fn content_with(
 
 /// Prints the line of something in the file: its file offset and its size in bytes, what it is, its token and its name.
 #[tactic(auto, unfolding(crate::specs::Lines::content_line))]
-pub(crate) fn print_content<'a, W: Write>(
+fn print_content<'a, W: Write>(
     start: u64,
     size: u64,
     structure: &'a str,
