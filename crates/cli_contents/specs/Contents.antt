@@ -64,9 +64,7 @@ abbrev pub data_in : Image → ℕ → ℕ → Option Body
 data_in image rva size = option_and_then (data_from image size) (offset_at image rva 1)
 
 -- the data of a field by its first row of FieldRVA, if there is one
-abbrev pub data_by : Image → Metadata → ℕ → Option ℕ → Option Body
-data_by image model field None = None
-data_by image model field (Some row) = data_in image (number_in (cell_in model FieldRVA row 0)) (data_size model field)
-
 abbrev pub data_of : Image → Metadata → ℕ → Option Body
-data_of image model field = data_by image model field (first_linked model link_of.FieldData (token_at Field field))
+data_of image model field =
+    option_and_then (λ row. data_in image (number_in (cell_in model FieldRVA row 0)) (data_size model field))
+    (first_linked model link_of.FieldData (token_at Field field))

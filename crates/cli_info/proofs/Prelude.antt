@@ -1,5 +1,5 @@
 -- What several proofs of this crate name of std, of the crates below, and of its own definitions.
-pub use Rattle.std.proofs.Common.{◌≡◌, ◌∙◌, ◌≤◌, ◌<◌, ◌+◌, ℕ, Bool, Option, None, Some, List, [], ◌∷◌, ◌++◌, append-nil, cond, length, map, flat_map, ap, arith, below_more, refl, sym, le-ltb, lt-ltb}
+pub use Rattle.std.proofs.Common.{◌≡◌, ◌∙◌, ◌≤◌, ◌<◌, ◌+◌, ℕ, Bool, Option, None, Some, List, [], ◌∷◌, ◌++◌, append-nil, cond, length, map, flat_map, ap, arith, below_more, ne_eqb, refl, sym, le-ltb, lt-ltb}
 pub use Rattle.std.proofs.lemmas.List.{length_push}
 pub use Rattle.std.proofs.lemmas.List.FromFn.{map-range_with_len_more}
 pub use Rattle.std.specs.List.{list_all, range_with_len}

@@ -10,7 +10,7 @@ ghost use Rattle.opening.specs.Views.{row_count};
 ghost use Rattle.cli_lines.specs.Lines.{note};
 ghost use Rattle.cli_lines.specs.Printed.{Adds, Prints};
 ghost use Rattle.cli_lines.specs.Shown.{shown_value};
-ghost use Rattle.cli_info.specs.Attributes.{are_texts, argument_parts, attribute_lines, attributes_lines, first_parts, has_types, is_assembly, is_own, is_text, item_parts, items_parts, lines_of_type, more_lines, string_in, texts_in};
+ghost use Rattle.cli_info.specs.Attributes.{are_texts, argument_parts, attribute_lines, attributes_lines, first_parts, has_types, is_assembly, is_own, is_text, item_parts, items_parts, lines_of_type, string_in, texts_in};
 
 use blob_values::{Argument, ArgumentType, Item, Items, Scalar, Value as Given};
 use cli_lines::Part::{Field, Member, Note, Word};
@@ -219,21 +219,6 @@ fn print_attribute<W: Write>(source: &Neighbours<'_, '_>, row: u32, out: &mut Pr
     }
 }
 
-/// Prints the number of attributes that are not read, if there are any.
-fn print_more<W: Write>(number: u32, out: &mut Printer<'_, W>)
-    ensures { Prints out.old out.new (more_lines number) }
-{
-    cli_lines::laws::lines_follow::<W>();
-    if number == 0 {
-        return;
-    }
-    out.line(&[
-        Member(Name::Directive, Plain("attributes")),
-        Word("more attributes "),
-        Field(Name::Left, Number(number as u64)),
-    ]);
-}
-
 /// Prints the lines of the first attributes of the assembly whose arguments are all strings, and the number of the others.
 pub(crate) fn print_attributes<W: Write>(alloc: Global, view: &View<'_>, out: &mut Printer<'_, W>)
     ensures { (model : Metadata) → IsModel view.now model → Prints out.old out.new (attributes_lines model) }
@@ -253,5 +238,13 @@ pub(crate) fn print_attributes<W: Write>(alloc: Global, view: &View<'_>, out: &m
         }
         own += 1;
     }
-    print_more(own.saturating_sub(ATTRIBUTE_LIMIT), out);
+    let others = own.saturating_sub(ATTRIBUTE_LIMIT);
+    if others == 0 {
+        return;
+    }
+    out.line(&[
+        Member(Name::Directive, Plain("attributes")),
+        Word("more attributes "),
+        Field(Name::Left, Number(others as u64)),
+    ]);
 }

@@ -1,4 +1,4 @@
-use Rattle.cli_info.proofs.Prelude.{◌≡◌, ◌∙◌, ◌+◌, append-nil, arith, count_in, length_push, refl, sym, CustomAttribute, IsModel, Metadata, own_rows}
+use Rattle.cli_info.proofs.Prelude.{◌≡◌, ◌∙◌, ◌+◌, append-nil, arith, count_in, length_push, ne_eqb, refl, sym, CustomAttribute, IsModel, Metadata, own_rows}
 use Rattle.cli_info.proofs.AttributeLemmas.{one_more, one_printed, own_next}
 use Rattle.cli_info.proofs.attributes.print_attributes.Goals as goal
 use Rattle.cli_info.proofs.attributes.print_attributes.Goals.{then-own-lt-ATTRIBUTE_LIMIT, else-own-lt-ATTRIBUTE_LIMIT}
@@ -40,8 +40,15 @@ loop-earlier-preserved g c =
           ]);
     }
 
+pub returns-then-others-eq0 : goal.returns-then-others-eq0
+returns-then-others-eq0 g c = λ model is.
+    let before = c.loop-earlier in
+    let all : count_in model CustomAttribute ≡ before.earlier = omega (arith, c.count-count.ensures.model model is, c.loop-earlier-test.false) in
+    rw (all, ← before.invariant.own model is, ← c.saturating_sub-others.ensures, c.if-others-eq0.true, append-nil) (before.invariant.printed model is)
+
 pub returns : goal.returns
 returns g c = λ model is.
     let before = c.loop-earlier in
     let all : count_in model CustomAttribute ≡ before.earlier = omega (arith, c.count-count.ensures.model model is, c.loop-earlier-test.false) in
-    rw (all, ← before.invariant.own model is, ← c.saturating_sub.ensures) (c.lines_follow.ensures.more _ _ _ _ _ (before.invariant.printed model is) c.print_more.ensures)
+    rw (all, ← before.invariant.own model is, ← c.saturating_sub-others.ensures, ne_eqb c.saturating_sub-others.result 0 c.if-others-eq0.false)
+    (c.lines_follow.ensures.more _ _ _ _ _ (before.invariant.printed model is) c.line.ensures)
