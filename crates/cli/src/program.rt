@@ -3,7 +3,7 @@ ghost use Rattle.std.specs.Prelude.{◌≡◌, ◌≤◌, ◌⊎◌, map};
 ghost use Rattle.clap.specs.Words.{kind_of};
 ghost use Rattle.cli_arguments.specs.Asked.{Gives};
 ghost use Rattle.cli_arguments.specs.declared.asked.Ask.{Ask as Asked};
-ghost use Rattle.cli.specs.Runs.{AsksToWarn, IsRunOf, IsUsage, MayWarn, Ran, form_on, path_of};
+ghost use Rattle.cli.specs.Runs.{AsksToWarn, Does, IsRunOf, IsUsage, MayWarn, Ran, form_on, path_of};
 
 use crate::task::{Task, form_of, input_of, task_of};
 use crate::usage_text::usage_text;
@@ -70,7 +70,7 @@ pub fn go<R: Files + Input + AllocGlobal, W: Write, E: Write>(
     go_on(rt, Terminal::Ascii, words, out, err)
 }
 
-/// Runs the program on its arguments, as [`go`] does, for a terminal. All arguments are checked before a file is read.
+/// Runs the program on its arguments, as [`go`] does, for a terminal.
 pub fn go_on<R: Files + Input + AllocGlobal, W: Write, E: Write>(
     rt: &R,
     terminal: Terminal,
@@ -82,13 +82,9 @@ pub fn go_on<R: Files + Input + AllocGlobal, W: Write, E: Write>(
     ensures run { Ran W.contents out.old out.new terminal R.File.contents (map (λ word. word.now) words.now) result }
     ensures quiet { result ≡ 0 → (err.new ≡ err.old) ⊎ ((given : Asked) × Gives (map (λ word. word.now) words.now) given × AsksToWarn given) }
 {
-    let alloc = rt.alloc();
-    match ask(alloc, &*words) {
-        Ok(ask) => match task_of(alloc, &ask) {
-            Ok(task) => run_task(rt, terminal, task, &ask, out, err),
-            Err(failure) => status(alloc, Err(Stopped::from(failure)), err),
-        },
-        Err(usage_error) => report_usage_error(alloc, &usage_error, &*words, out, err),
+    match ask(rt.alloc(), &*words) {
+        Ok(ask) => run(rt, terminal, &ask, out, err),
+        Err(usage_error) => report_usage_error(rt.alloc(), &usage_error, &*words, out, err),
     }
 }
 
@@ -117,6 +113,25 @@ fn report_usage_error<W: Write, E: Write>(
     match printed(finish(text.as_bytes(), out)) {
         Ok(()) => 0,
         Err(failure) => status(alloc, Err(Stopped::from(failure)), err),
+    }
+}
+
+/// Runs the task of the arguments, reports why it stopped early, and returns the exit code. All arguments are checked
+/// before a file is read.
+fn run<R: Files + Input + AllocGlobal, W: Write, E: Write>(
+    rt: &R,
+    terminal: Terminal,
+    ask: &Ask<'_>,
+    out: &mut W,
+    err: &mut E,
+) -> u8
+    ensures limit { result ≤ 3 }
+    ensures does { Does W.contents out.old out.new terminal R.File.contents ask.now result }
+    ensures quiet { result ≡ 0 → (err.new ≡ err.old) ⊎ AsksToWarn ask.now }
+{
+    match task_of(rt.alloc(), ask) {
+        Ok(task) => run_task(rt, terminal, task, ask, out, err),
+        Err(failure) => status(rt.alloc(), Err(Stopped::from(failure)), err),
     }
 }
 

@@ -33,10 +33,10 @@ returns-in-Embed-clause-run g c =
     rw c.in-Embed.is (c.embed_file-outcome.result, run, c.status-in-Embed.ensures.status)
 
 pub returns-in-OnFiles-clause-run : goal.returns-in-OnFiles-clause-run
-returns-in-OnFiles-clause-run g c = rw c.in-OnFiles.is (rw (c.form_on.ensures, c.as_slice.ensures.value) at c.run_files.ensures.run)
+returns-in-OnFiles-clause-run g c = rw c.in-OnFiles.is (rw (c.form_on-request.ensures, c.as_slice.ensures.value) at c.run_files.ensures.run)
 
 pub returns-in-OnList-clause-run : goal.returns-in-OnList-clause-run
-returns-in-OnList-clause-run g c = rw c.in-OnList.is (rw (c.form_on-in-OnList.ensures, c.path_of.ensures) at c.run_listed.ensures.run)
+returns-in-OnList-clause-run g c = rw c.in-OnList.is (rw (c.form_on-request-in-OnList.ensures, c.path_of.ensures) at c.run_listed.ensures.run)
 
 pub returns-in-Extract-clause-run : goal.returns-in-Extract-clause-run
 returns-in-Extract-clause-run g c = rw c.in-Extract.is (c.extract_file.result, c.extract_file.ensures, c.status-in-Extract.ensures.status)

@@ -1,4 +1,4 @@
-use Rattle.cli_runs.proofs.Prelude.{◌≡◌, ◌&&◌, Err, arith, inl, inr, refl, true, MatchResult-weaker, NotUtf8, is_input}
+use Rattle.cli_runs.proofs.Prelude.{◌≡◌, ◌&&◌, List, ℕ, Err, arith, inl, inr, refl, subst, true, MatchResult-weaker, NotUtf8, IsCutAt, IsRun, is_input}
 use Rattle.cli_runs.proofs.Running.{next_run}
 use Rattle.cli_runs.proofs.files.run_next.Goals as goal
 
@@ -25,9 +25,14 @@ returns-then-is_walked g c =
 pub returns-in-Ok-read_into : goal.returns-in-Ok-read_into
 returns-in-Ok-read_into g c =
     let path = c.in-Ok.ensures.cases.0 in
-    MatchResult-weaker c.run_on_bytes.result (rw path at c.run_on_bytes.ensures)
-    (λ status ran. (ran.0, ran.1, next_run c.args.request.now g.W.Write.contents _ c.args.out.now c.run_on_bytes.new.out c.args.name.now status (rw c.is_input.ensures at c.if-is_again.false) (inl ran.2)))
-    (λ failed cut. inl cut)
+    MatchResult-weaker c.run_on_bytes.result c.run_on_bytes.ensures
+    (λ status ran. (
+      ran.0,
+      ran.1,
+      next_run c.args.request.now g.W.Write.contents _ c.args.out.now c.run_on_bytes.new.out c.args.name.now status (rw c.is_input.ensures at c.if-is_again.false)
+          (inl (subst (λ (of : List ℕ). IsRun c.args.request.now g.W.Write.contents c.args.out.now c.run_on_bytes.new.out of status) path ran.2)),
+    ))
+    (λ failed cut. inl (subst (IsCutAt c.args.request.now g.W.Write.contents c.args.out.now c.run_on_bytes.new.out) path cut))
 
 pub returns-in-Err : goal.returns-in-Err
 returns-in-Err g c = (
