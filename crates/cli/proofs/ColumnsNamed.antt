@@ -1,6 +1,5 @@
 -- The columns that arguments name, one after another.
-use Rattle.cli.proofs.Prelude.{◌≡◌, ◌≢◌, ◌∙◌, ◌+◌, ◌<◌, ℕ, true, List, [], ◌∷◌, ◌++◌, take, get_or, length, ap, sym, arith, inl, inr, ◌⊎◌, Any, Bor, get_or_append_left, length-append, take_more, All-more, All-weaker, TableId, cell_count, table_index_of, tables, AreOthersSame, is_ignored, AreNamed, NamesColumn, NamesIgnored}
-use Rattle.std.specs.Prelude.{slice_index_or}
+use Rattle.cli.proofs.Prelude.{◌≡◌, ◌≢◌, ◌∙◌, ◌+◌, ◌<◌, ℕ, true, List, [], ◌∷◌, ◌++◌, take, get_or, length, slice_index_or, ap, sym, arith, inl, inr, ◌⊎◌, Any, Bor, get_or_append_left, length-append, take_more, All-more, All-weaker, TableId, cell_count, table_index_of, tables, AreOthersSame, is_ignored, AreNamed, NamesColumn, NamesIgnored}
 use Rattle.std.proofs.lemmas.Bool.{cases_eq}
 use Rattle.std.proofs.lemmas.List.Quantifiers.{Any-push}
 use Rattle.table_schema.specs.declared.table.TableId.TheVariants.{Module}

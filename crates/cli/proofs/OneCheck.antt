@@ -2,12 +2,9 @@
 use Rattle.std.proofs.Common.{◌≡◌, ℕ, false, List, [], ◌∷◌, Option, None, Ok, Err, refl, sym, subst, inl, inr}
 use Rattle.std.specs.Io.KnownBytes.{Appends}
 use Rattle.cli_files.specs.Checks.{IsCheckOfBytes, IsCheckOfFile, ok_line}
-use Rattle.cli_faults.specs.Status.{status_of}
-use Rattle.cli_faults.specs.declared.failure.Failure.{Failure}
 use Rattle.cli_faults.specs.declared.failure.Failure.TheVariants as failed
 use Rattle.cli_faults.specs.declared.file_error.Reason.TheVariants.{Other}
 use Rattle.cli_faults.specs.declared.stop.Stop.TheVariants.{Failed}
-use Rattle.cli_files.specs.Read.{IsRefused}
 use Rattle.cli_lines.specs.Lines.{report_text}
 use Rattle.cli_lines.specs.declared.parts.Form.TheVariants.{Text}
 use Rattle.cli_print.specs.Verdicts.{verdict_line}
@@ -15,12 +12,6 @@ use Rattle.cli_sending.specs.Sent.{SendsPrefix}
 use Rattle.cli.specs.Tasks.{check_of_one}
 use Rattle.cli_runs.specs.Runs.{AreRun, IsRunOn}
 use Rattle.cli_runs.specs.declared.report.Ended.TheVariants.{Printed, Refused}
-
-unread : (file : List ℕ) (failure : Failure) → IsRefused file failure → 3 ≡ status_of failure
-unread file (failed.NotUtf8 name) refused = refl
-unread file (failed.CannotRead error) refused = refl
-unread file failed.OutOfMemory refused = refl
-unread file _ refused = absurd refused
 
 module _ {W : Type 0} (contents : W → Option (List ℕ)) (before after : W) (same : report_text Text (verdict_line None None ∷ []) ≡ ok_line) where
   of_bytes : (name bytes : List ℕ) (status : ℕ) → IsCheckOfBytes contents before after bytes status → AreRun check_of_one contents 0 false before after (name ∷ []) status
@@ -37,4 +28,5 @@ module _ {W : Type 0} (contents : W → Option (List ℕ)) (before after : W) (s
       → IsCheckOfFile contents before after remaining given file status → IsRunOn check_of_one contents false before after (file ∷ []) status
   of_file remaining given file status (inl read) = inl (of_bytes file read.0 status read.2)
   of_file remaining given file status (inr refused) =
-      inl (inl (after, 3, inl (Err refused.0.0, (refused.0.1, unread file refused.0.0 refused.0.1, refused.1)), (refl, refused.2)))
+      -- that memory ran out ends a run so, too
+      inl (inl (after, 3, inl (Err failed.OutOfMemory, (tt, refl, refused.1)), (refl, refused.2)))

@@ -1,6 +1,5 @@
 -- What a run of the program does with its arguments, and with what reading FILE gave.
-use Rattle.std.specs.Prelude.{◌≡◌, ◌≢◌, ℕ, false, List, ◌⊎◌, codes, map, None, Option, option_map, Some, Result, Ok, Err, MatchResult}
-use Rattle.packed.specs.declared.code.FaultCode.{FaultCode}
+use Rattle.std.specs.Prelude.{◌≡◌, ◌≢◌, ℕ, false, List, ◌⊎◌, codes, map, None, Option, option_map, Some, Result, Ok, MatchResult}
 use Rattle.std.specs.Borrow.{Bor}
 use Rattle.clap.specs.Words.{IsAmong, Text, fault_of}
 use Rattle.clap.specs.declared.error.kind.ErrorKind.{ErrorKind}
@@ -28,15 +27,6 @@ use Rattle.cli.specs.declared.program.Terminal.TheVariants.{Utf8}
 use Rattle.cli.specs.Tasks.{IsTask, form_of, input_of}
 use Rattle.cli.specs.declared.task.Task.{Task}
 use Rattle.cli.specs.declared.task.Task.TheVariants as task
-
--- the exit code of a run that may fail
-abbrev pub status_of_run : Result (Unit {0}) Failure → ℕ
-status_of_run (Ok done) = 0
-status_of_run (Err failure) = status_of failure
-
--- the run that explains these rules ends with this exit code
-abbrev pub IsExplaining : Form → List FaultCode → Option (List ℕ) → Option (List ℕ) → ℕ → Type 0
-IsExplaining form rules before after status = (result : Result (Unit {0}) Failure) × IsExplained form rules before after result × (status ≡ status_of_run result)
 
 -- the path of a list of files: that of the standard input, if there is no other
 abbrev pub path_of : Option (Bor (List ℕ)) → List ℕ
@@ -97,7 +87,7 @@ module _ {W : Type 0} (contents : W → Option (List ℕ)) (before after : W) wh
         EndsWith (IsFileRun before after file.now (λ left. IsFileRun before after other.now
         (λ right. IsWithin before after options.budget options.input left (IsWithin before after options.budget options.input right
         (IsComparing contents before after options.output options.ignored options.input left right file.now other.now))))) status
-    IsRunOf file_contents (task.Explain rules) ask status = IsExplaining (form_of ask.json) rules.items (contents before) (contents after) status
+    IsRunOf file_contents (task.Explain rules) ask status = IsExplained (form_of ask.json) rules.items (contents before) (contents after) status
 
     -- the run of what the arguments ask for: that of their task; or one of them is wrong, and nothing is read or printed
     abbrev pub Does : {F : Type 0} → (F → Option (List ℕ)) → Ask → ℕ → Type 0

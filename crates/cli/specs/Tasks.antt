@@ -1,8 +1,7 @@
 -- What the arguments ask the program to do.
-use Rattle.std.specs.Prelude.{◌≡◌, ℕ, Bool, true, false, List, [], ◌∷◌, ◌++◌, ◌||◌, Option, Some, None, is_some, Result, Ok, Err, IsOkAnd, MatchOption, MatchResult, codes, if◌then◌else◌}
-use Rattle.std.specs.List.{All}
+use Rattle.std.specs.Prelude.{◌≡◌, ℕ, Bool, true, false, List, [], ◌∷◌, ◌++◌, ◌||◌, Option, Some, None, is_some, Result, Ok, Err, IsOkAnd, MatchOption, MatchResult, codes, if◌then◌else◌, bytes_eq}
+use Rattle.std.specs.List.{All, AllZip}
 use Rattle.std.specs.Borrow.{Bor}
-use Rattle.std.specs.Str.{bytes_eq}
 use Rattle.std.specs.Str.Parse.{digits_value}
 use Rattle.packed.specs.declared.code.FaultCode.{FaultCode}
 use Rattle.embedding.specs.declared.strong_name.StrongName.TheVariants.{Keep, Clear}
@@ -125,31 +124,29 @@ options_of no_tokens public sorted = record {
   entry = None;
 }
 
--- the report of `outline`: that of the row that the argument names, or of all if there is none
-abbrev pub IsOutline : OutlineOptions → Option (Bor (List ℕ)) → Report → Type 0
-IsOutline options part made =
-    MatchOption part (made ≡ report.Outline options)
-    (λ given. (named : Subject) × NamesSubject given.now named × (made ≡ report.OutlineOf named options))
+-- the report on the row that the argument names, or that on all if there is none
+abbrev pub IsOnPart : Option (Bor (List ℕ)) → Report → (Subject → Report) → Report → Type 0
+IsOnPart part all of made = MatchOption part (made ≡ all) (λ given. (named : Subject) × NamesSubject given.now named × (made ≡ of named))
 
--- the report of `refs`: that of the type that the argument names, or of all if there is none
+-- the reports of `outline` and of `refs`
+abbrev pub IsOutline : OutlineOptions → Option (Bor (List ℕ)) → Report → Type 0
+IsOutline options part made = IsOnPart part (report.Outline options) (λ named. report.OutlineOf named options) made
+
 abbrev pub IsRefs : Option (Bor (List ℕ)) → Report → Type 0
-IsRefs part made =
-    MatchOption part (made ≡ report.Listing listing.Refs) (λ given. (named : Subject) × NamesSubject given.now named × (made ≡ report.RefsOf named))
+IsRefs part made = IsOnPart part (report.Listing listing.Refs) report.RefsOf made
 
 -- each of the arguments names one of these, in their order
 abbrev pub NameEach : {X : Type 0} → (List ℕ → X → Type 0) → List (Bor (List ℕ)) → List X → Type 0
-NameEach {X} Names [] named = named ≡ []
-NameEach {X} Names (word ∷ words) named = (first : X) × (more : List X) × Names word.now first × NameEach Names words more × (named ≡ first ∷ more)
+NameEach Names words named = AllZip (λ word. Names word.now) words named
+
+-- the failure is that of the first argument that names none of these; or memory ran out
+abbrev pub IsOfFirstUnknown : {X : Type 0} → (List ℕ → X → Type 0) → (Bor (List ℕ) → Failure → Type 0) → List (Bor (List ℕ)) → Failure → Type 0
+IsOfFirstUnknown {X} Names IsOf words failed.OutOfMemory = Unit {0}
+IsOfFirstUnknown {X} Names IsOf words failure = (word : Bor (List ℕ)) × IsFirstUnknown (λ word. (one : X) × Names word.now one) words word × IsOf word failure
 
 -- the argument is a token, with this number
 abbrev pub HasNumber : List ℕ → ℕ → Type 0
 HasNumber word number = IsHexNumber word × (number ≡ digits_value 16 word)
-
--- the failure says that an argument, the first that is not a token, is not; or memory ran out
-abbrev pub IsFirstNoToken : List (Bor (List ℕ)) → Failure → Type 0
-IsFirstNoToken words failed.OutOfMemory = Unit {0}
-IsFirstNoToken words failure =
-    (word : Bor (List ℕ)) × IsFirstUnknown (λ word. (number : ℕ) × HasNumber word.now number) words word × (failure ≡ failed.Usage (wrong.NoToken word))
 
 -- the report is what each of these tokens names
 abbrev pub IsOnTokens : List (Bor (List ℕ)) → Report → Type 0
@@ -158,7 +155,7 @@ IsOnTokens words _ = ⊥
 
 -- the report of `token`: what each of the tokens names; else the failure says which is not a token
 abbrev pub IsTokens : List (Bor (List ℕ)) → Result Report Failure → Type 0
-IsTokens words result = MatchResult result (IsOnTokens words) (IsFirstNoToken words)
+IsTokens words result = MatchResult result (IsOnTokens words) (IsOfFirstUnknown HasNumber (λ word failure. failure ≡ failed.Usage (wrong.NoToken word)) words)
 
 -- the report of `where`: what has the byte if the argument is an offset; else the failure says that it is not, or is missing
 abbrev pub IsWhere : Option (Bor (List ℕ)) → Result Report Failure → Type 0
@@ -222,16 +219,11 @@ abbrev pub IsExplanation : List (Bor (List ℕ)) → Task → Type 0
 IsExplanation words (task.Explain rules) = NameEach NamesCode words rules.items
 IsExplanation words _ = ⊥
 
--- the failure says that an argument, the first that names no rule, does not; or memory ran out
-abbrev pub IsFirstNoCode : List (Bor (List ℕ)) → Failure → Type 0
-IsFirstNoCode words failed.OutOfMemory = Unit {0}
-IsFirstNoCode words failure =
-    (word : Bor (List ℕ)) × IsFirstUnknown (λ word. (code : FaultCode) × NamesCode word.now code) words word
-    × (nearest : Option FaultCode) × (failure ≡ failed.Usage (wrong.NoCode word nearest))
-
--- the task of `explain`
+-- the task of `explain`; else the failure says which argument names no rule
 abbrev pub IsExplainTask : List (Bor (List ℕ)) → Result Task Failure → Type 0
-IsExplainTask words result = MatchResult result (IsExplanation words) (IsFirstNoCode words)
+IsExplainTask words result =
+    MatchResult result (IsExplanation words)
+    (IsOfFirstUnknown NamesCode (λ word failure. (nearest : Option FaultCode) × (failure ≡ failed.Usage (wrong.NoCode word nearest))) words)
 
 -- the task of a subcommand
 abbrev pub IsTask : Subcommand → Ask → Result Task Failure → Type 0

@@ -3,7 +3,7 @@ ghost use Rattle.std.specs.Prelude.{◌≡◌, ◌≤◌, ◌⊎◌, map};
 ghost use Rattle.clap.specs.Words.{kind_of};
 ghost use Rattle.cli_arguments.specs.Asked.{Gives};
 ghost use Rattle.cli_arguments.specs.declared.asked.Ask.{Ask as Asked};
-ghost use Rattle.cli.specs.Runs.{AsksToWarn, Does, IsExplaining, IsRunOf, IsUsage, MayWarn, Ran, form_on, path_of, request_on};
+ghost use Rattle.cli.specs.Runs.{AsksToWarn, Does, IsRunOf, IsUsage, MayWarn, Ran, form_on, path_of};
 
 use crate::task::{Task, form_of, input_of, task_of};
 use crate::usage_text::usage_text;
@@ -13,9 +13,8 @@ use cli_faults::printed;
 use cli_files::{STANDARD_INPUT, Stopped, out_of_memory, status};
 use cli_lines::Form;
 use cli_roots::{compare_files, embed_file, rewrite_file};
-use cli_runs::{Request, explain_rules, extract_file, run_files, run_listed};
+use cli_runs::{explain_rules, extract_file, run_files, run_listed};
 use cli_sending::finish;
-use packed::FaultCode;
 use std::alloc::Global;
 use std::io::Write;
 use std::rt::Files;
@@ -40,15 +39,6 @@ fn form_on(terminal: Terminal, subcommand: Subcommand, form: Form) -> Form
         | (Terminal::Utf8, Subcommand::Resources, Form::Text) => Form::Letters,
         _ => form,
     }
-}
-
-/// What is asked of each file, on a terminal.
-fn request_on<'a>(terminal: Terminal, subcommand: Subcommand, request: Request<'a>) -> Request<'a>
-    ensures { result ≡ request_on terminal subcommand request.entry }
-{
-    let mut request = request;
-    request.form = form_on(terminal, subcommand, request.form);
-    request
 }
 
 /// Runs the program on its arguments, the program name first, and returns the exit code:
@@ -89,10 +79,7 @@ pub fn go_on<R: Files + Input + AllocGlobal, W: Write, E: Write>(
     err: &mut E,
 ) -> u8
     ensures limit { result ≤ 3 }
-    // It does what the arguments ask for, with what reading the files gave. The exit code and the output are those of
-    // that run.
     ensures run { Ran W.contents out.old out.new terminal R.File.contents (map (λ word. word.now) words.now) result }
-    // If it succeeds, nothing goes to `err`, unless it is `embed` or directories are walked.
     ensures quiet { result ≡ 0 → (err.new ≡ err.old) ⊎ ((given : Asked) × Gives (map (λ word. word.now) words.now) given × AsksToWarn given) }
 {
     match ask(rt.alloc(), &*words) {
@@ -163,12 +150,12 @@ fn run_task<R: Files + Input + AllocGlobal, W: Write, E: Write>(
 {
     let alloc = rt.alloc();
     match task {
-        Task::OnFiles(request) => {
-            let request = request_on(terminal, ask.subcommand, request);
+        Task::OnFiles(mut request) => {
+            request.form = form_on(terminal, ask.subcommand, request.form);
             run_files(rt, &request, ask.files.as_slice(), out, err)
         }
-        Task::OnList(request, list, separator) => {
-            let request = request_on(terminal, ask.subcommand, request);
+        Task::OnList(mut request, list, separator) => {
+            request.form = form_on(terminal, ask.subcommand, request.form);
             run_listed(rt, &request, path_of(list), separator, out, err)
         }
         Task::Rewrite(file, path) => {
@@ -185,7 +172,9 @@ fn run_task<R: Files + Input + AllocGlobal, W: Write, E: Write>(
         Task::Compare(file, other, options) => {
             status(alloc, compare_files(rt, file, other, &options, out), err)
         }
-        Task::Explain(rules) => explain(alloc, rules.as_slice(), form_of(ask.json), out, err),
+        Task::Explain(rules) => {
+            explain_rules(alloc, rules.as_slice(), form_of(ask.json), out, err)
+        }
     }
 }
 
@@ -196,23 +185,5 @@ fn path_of(list: Option<&str>) -> &str
     match list {
         Some(path) => path,
         None => STANDARD_INPUT,
-    }
-}
-
-/// Explains rules, or lists all. Reports why it stopped early, and returns the exit code.
-fn explain<W: Write, E: Write>(
-    alloc: Global,
-    rules: &[FaultCode],
-    form: Form,
-    out: &mut W,
-    err: &mut E,
-) -> u8
-    ensures limit { result ≤ 3 }
-    ensures run { IsExplaining form rules.now (W.contents out.old) (W.contents out.new) result }
-    ensures quiet { result ≡ 0 → err.new ≡ err.old }
-{
-    match explain_rules(alloc, rules, form, out) {
-        Ok(()) => 0,
-        Err(failure) => status(alloc, Err(Stopped::from(failure)), err),
     }
 }

@@ -1,6 +1,5 @@
 //! What `clap` says about arguments.
-ghost use Rattle.std.specs.Prelude.{◌≡◌, IfOk, map};
-ghost use Rattle.std.specs.String.{string_bytes};
+ghost use Rattle.std.specs.Prelude.{◌≡◌, IfOk, map, string_bytes};
 ghost use Rattle.cli_faults.specs.Escaped.{escaped_text};
 
 use clap::error::ErrorKind;

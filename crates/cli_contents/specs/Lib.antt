@@ -1,4 +1,2 @@
-pub mod Bodies
-pub mod FieldData
 pub mod Contents
 pub mod Lines

@@ -14,10 +14,7 @@
 //! ```
 #![tactic(auto)]
 
-mod bodies;
-mod field_data;
+mod contents;
 mod lines;
-mod resource_line;
 
-pub use lines::print_contents;
-pub use resource_line::print_resource;
+pub use lines::{print_contents, print_resource};

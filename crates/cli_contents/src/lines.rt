@@ -1,21 +1,21 @@
-//! Prints the lines of methods, and of fields with data.
-ghost use Rattle.std.specs.Prelude.{◌≡◌, ◌<◌, ◌≤◌, ◌∷◌, ◌^◌, [], IfSome, MatchOption, false, length, map, nat_le, take, true};
+//! Prints the lines of methods, of fields with data, and of a resource.
+ghost use Rattle.std.specs.Prelude.{◌≡◌, ◌<◌, ◌≤◌, ◌∷◌, ◌^◌, [], List, length};
+ghost use Rattle.cli_header.specs.declared.header.CliHeader.{CliHeader as Header};
 ghost use Rattle.metadata.specs.Metadata.{Metadata};
-ghost use Rattle.metadata.specs.Model.{IsModel};
+ghost use Rattle.metadata.specs.Model.{IsModel, IsModelOfFile};
 ghost use Rattle.opening.specs.Views.{row_count};
-ghost use Rattle.pe.specs.Headers.{section_count};
 ghost use Rattle.pe.specs.Image.{Image, IsImage};
 ghost use Rattle.table_schema.specs.CellColumns.{cell_count};
+ghost use Rattle.cli_lines.specs.Lines.{Part as ThePart};
 ghost use Rattle.cli_lines.specs.Printed.{Prints};
-ghost use Rattle.cli_contents.specs.Contents.{content_with, contents_at, kept, name_in, table_of, word_for};
-ghost use Rattle.cli_contents.specs.Lines.{content_line, content_lines, content_limit, row_line, section_limit};
+ghost use Rattle.cli_contents.specs.Lines.{AreOfResources, content_line, content_lines, content_with, first_lines, kept, row_line, shape};
 
-use crate::bodies::{Body, body_of};
-use crate::field_data::data_of;
+use crate::contents::{Body, body_of, data_of};
+use cli_header::read_cli;
 use cli_lines::Part::{Field, Word};
 use cli_lines::Value::{self, Number, Plain, Text};
 use cli_lines::{Name, Printer};
-use file_ranges::Headers;
+use file_ranges::{Headers, Location, NotWithin, directory_of, location_of, resource_at};
 use navigation::Neighbours;
 use opening::{TableId, Token, View, text_or_empty};
 use pe::{Pe, read_pe};
@@ -27,6 +27,9 @@ const LIMIT: usize = 10;
 
 /// The largest number of sections of a file whose methods and fields are printed: that of Windows' loader, by Microsoft's PE format.
 const SECTION_LIMIT: usize = 96;
+
+/// The index of the cell with the name of a resource (II.22.24).
+const RESOURCE_NAME: usize = 2;
 
 /// How many bytes are known of data of a size that is not known.
 const KNOWN: usize = 1;
@@ -43,10 +46,10 @@ pub(crate) enum Kind {
 /// The table, the cell with the name of a row (II.22.15, II.22.26), and the word for what is in the file.
 #[tactic(auto, unfolding(table_schema::specs::CellColumns::cell_columns))]
 fn shape(kind: Kind) -> (TableId, usize, &'static str)
-    ensures table { result.0 ≡ table_of kind }
-    ensures name { result.1 ≡ name_in kind }
+    ensures table { result.0 ≡ (shape kind).0 }
+    ensures name { result.1 ≡ (shape kind).1 }
     ensures within { result.1 < cell_count result.0 }
-    ensures word { result.2.now ≡ word_for kind }
+    ensures word { result.2.now ≡ (shape kind).2 }
 {
     match kind {
         Kind::Method => (TableId::MethodDef, 3, "method"),
@@ -56,8 +59,7 @@ fn shape(kind: Kind) -> (TableId, usize, &'static str)
 
 /// A body or data, if the byte at an offset is in it.
 fn kept(of: Body, offset: u64) -> Option<Body>
-    ensures kept { result ≡ kept offset of }
-    ensures row { IfSome result (λ body. body.row ≡ of.row) }
+    ensures { result ≡ kept offset of }
 {
     let start = of.start as u64;
     if start <= offset && offset - start < of.size.max(KNOWN) as u64 {
@@ -77,9 +79,8 @@ fn content_with(
 ) -> Option<Body>
     requires small { length pe.now.bytes ≤ 2 ^ 30 }
     requires first { 1 ≤ row }
-    requires last { row ≤ row_count source.now.view.now (table_of kind) }
-    ensures content { (model : Metadata) → IsModel source.now.view.now model → result ≡ content_with kind pe.now model offset row }
-    ensures row { IfSome result (λ of. of.row ≡ row) }
+    requires last { row ≤ row_count source.now.view.now (shape kind).0 }
+    ensures { (model : Metadata) → IsModel source.now.view.now model → result ≡ content_with kind pe.now model offset row }
 {
     match kind {
         Kind::Method => kept(body_of(pe, source.view, row)?, offset),
@@ -89,7 +90,7 @@ fn content_with(
 
 /// Prints the line of something in the file: its file offset and its size in bytes, what it is, its token and its name.
 #[tactic(auto, unfolding(crate::specs::Lines::content_line))]
-pub(crate) fn print_content<'a, W: Write>(
+fn print_content<'a, W: Write>(
     start: u64,
     size: u64,
     structure: &'a str,
@@ -113,13 +114,12 @@ pub(crate) fn print_content<'a, W: Write>(
 }
 
 /// Prints the line of what a row refers to.
-fn print_row<W: Write>(view: &View<'_>, kind: Kind, of: Body, out: &mut Printer<'_, W>)
-    requires first { 1 ≤ of.row }
-    requires last { of.row ≤ row_count view.now (table_of kind) }
-    ensures { (model : Metadata) → IsModel view.now model → Prints out.old out.new (row_line kind model of ∷ []) }
+fn print_row<W: Write>(view: &View<'_>, kind: Kind, row: u32, of: Body, out: &mut Printer<'_, W>)
+    requires first { 1 ≤ row }
+    requires last { row ≤ row_count view.now (shape kind).0 }
+    ensures { (model : Metadata) → IsModel view.now model → Prints out.old out.new (row_line kind model row of ∷ []) }
 {
     let (table, cell, word) = shape(kind);
-    let row = of.row;
     let name = text_or_empty(view, table, row, cell);
     let (start, size) = (of.start as u64, of.size as u64);
     print_content(start, size, word, Token { table, row }, name, out);
@@ -134,8 +134,7 @@ fn print_first<W: Write>(
     out: &mut Printer<'_, W>,
 )
     requires { length pe.now.bytes ≤ 2 ^ 30 }
-    ensures { (model : Metadata) → IsModel source.now.view.now model
-        → Prints out.old out.new (map (row_line kind model) (take content_limit (contents_at kind pe.now model offset))) }
+    ensures { (model : Metadata) → IsModel source.now.view.now model → Prints out.old out.new (first_lines kind pe.now model offset) }
 {
     cli_lines::laws::lines_follow::<W>();
     let (table, _, _) = shape(kind);
@@ -148,24 +147,8 @@ fn print_first<W: Write>(
         if left == 0 {
             return;
         }
-        print_row(source.view, kind, of, out);
+        print_row(source.view, kind, row, of, out);
         left -= 1;
-    }
-}
-
-/// The image of a file, if it has no more than 96 sections.
-fn image_in(file: &[u8]) -> Option<Pe<'_>>
-    ensures image { (image : Image) → IsImage file.now image
-        → MatchOption result (nat_le (section_count image.bytes) section_limit ≡ false) (λ pe. (pe ≡ image) × (nat_le (section_count image.bytes) section_limit ≡ true)) }
-    ensures small { IfSome result (λ pe. length pe.bytes ≤ 2 ^ 30) }
-{
-    let Ok(pe) = read_pe(file) else {
-        return None;
-    };
-    if Headers::read(file).section_count() <= SECTION_LIMIT {
-        Some(pe)
-    } else {
-        None
     }
 }
 
@@ -188,12 +171,48 @@ pub fn print_contents<W: Write>(
     ensures { (image : Image) → IsImage file.now image → (model : Metadata) → IsModel view.now model → Prints out.old out.new (content_lines image model offset) }
 {
     cli_lines::laws::lines_follow::<W>();
-    let Some(pe) = image_in(file) else {
+    let Ok(pe) = read_pe(file) else {
         return;
     };
+    if Headers::read(file).section_count() > SECTION_LIMIT {
+        return;
+    }
     let Ok(source) = Neighbours::new(alloc, view) else {
         return out.fail();
     };
     print_first(&pe, &source, Kind::Method, offset, out);
     print_first(&pe, &source, Kind::Field, offset, out);
+}
+
+/// Prints a line for the first resource in a file whose content contains the byte at an offset of it: the file offset and the
+/// size of the content, and the token and the name of the resource.
+///
+/// In JSON it is `{"offset":2364,"size":7,"structure":"resource","token":"28000001","name":"notes.txt"}`.
+#[tactic(auto, unfolding(table_schema::specs::CellColumns::cell_columns))]
+pub fn print_resource<W: Write>(file: &[u8], view: &View<'_>, offset: u64, out: &mut Printer<'_, W>)
+    ensures { (header : Header) (model : Metadata) → IsModelOfFile file.now header model → IsModel view.now model
+        → (lines : List (List ThePart)) × AreOfResources file.now header model offset lines × Prints out.old out.new lines }
+{
+    cli_lines::laws::lines_follow::<W>();
+    let Ok(pe) = read_pe(file) else {
+        return;
+    };
+    let Ok(header) = read_cli(&pe) else {
+        return;
+    };
+    let directory = directory_of(file, &header);
+    let Some(row) = resource_at(directory, view, offset) else {
+        return;
+    };
+    match location_of(directory, view, row) {
+        Ok(Location::Here(content)) => {
+            let table = TableId::ManifestResource;
+            let name = text_or_empty(view, table, row, RESOURCE_NAME);
+            let size = content.bytes.len() as u64;
+            let resource = Token { table, row };
+            print_content(content.offset, size, "resource", resource, name, out);
+        }
+        Ok(Location::Elsewhere(_)) => {}
+        Err(NotWithin) => {}
+    }
 }

@@ -1,23 +1,17 @@
 -- The attributes of the assembly, by their types and by their rows.
-use Rattle.cli_info.proofs.Prelude.{◌≡◌, ◌≤◌, ◌<◌, ◌+◌, ◌∙◌, ℕ, Bool, true, false, Option, None, Some, List, [], ◌∷◌, ◌++◌, cond, length, ap, append-nil, arith, length_push, refl, Metadata, Token, attribute_limit, attribute_lines, is_own, lines_of_items, lines_of_rows, own_rows}
+use Rattle.cli_info.proofs.Prelude.{◌≡◌, ◌≤◌, ◌<◌, ◌+◌, ℕ, Bool, Option, None, Some, List, [], ◌∷◌, ◌++◌, cond, length, flat_map, ap, append-nil, arith, length_push, refl, Metadata, Token, attribute_limit, attribute_lines, is_own, lines_of_items, lines_of_rows, own_rows}
 use Rattle.std.proofs.lemmas.Grind.{flat_map-append}
 use Rattle.std.proofs.lemmas.List.{map-id, take-append-le, take_all}
 use Rattle.std.proofs.lemmas.List.FromFn.{filter_of_map_range_with_len_more}
-use Rattle.std.specs.Prelude.{flat_map}
 
 pub no_items : (model : Metadata) (class : Option Token) → lines_of_items model class None ≡ []
 no_items model None = refl
 no_items model (Some class) = refl
 
 module _ (model : Metadata) (earlier : ℕ) where
-  own_next : {own : Bool} → is_own model (earlier + 1) ≡ own → own_rows model (earlier + 1) ≡ own_rows model earlier ++ cond own ((earlier + 1) ∷ []) []
+  -- the rows with attributes of the assembly, with one more row
+  pub own_next : {own : Bool} → is_own model (earlier + 1) ≡ own → own_rows model (earlier + 1) ≡ own_rows model earlier ++ cond own ((earlier + 1) ∷ []) []
   own_next is = rw (map-id, map-id, is) at (filter_of_map_range_with_len_more (is_own model) (λ row. row) 1 earlier (earlier + 1) (omega arith))
-
-  pub not_own : is_own model (earlier + 1) ≡ false → own_rows model (earlier + 1) ≡ own_rows model earlier
-  not_own is = own_next is ∙ append-nil _
-
-  pub one_own : is_own model (earlier + 1) ≡ true → own_rows model (earlier + 1) ≡ own_rows model earlier ++ (earlier + 1) ∷ []
-  one_own is = own_next is
 
 module _ (model : Metadata) (rows : List ℕ) (row : ℕ) where
   pub one_printed : length rows < 256 → lines_of_rows model (rows ++ row ∷ []) ≡ lines_of_rows model rows ++ attribute_lines model row

@@ -45,25 +45,21 @@ texts_in params value =
     let read = value_items params value in
     if length params == 0 then None else (if nat_le (length value) value_limit && are_texts read then read else None)
 
--- an argument in a line of text, if it is a string
-abbrev pub argument_parts : List ℕ → Option Value → List Part
-argument_parts before None = []
-argument_parts before (Some of) = word before ∷ note of ∷ []
+-- an argument, if it is a string
+abbrev pub argument_parts : List ℕ → (Value → Part) → Option Value → List Part
+argument_parts before part None = []
+argument_parts before part (Some of) = word before ∷ part of ∷ []
 
 -- an argument, and the name of a named one before it
 abbrev pub item_parts : Item → List Part
-item_parts (fixed head) = argument_parts (codes " ") (string_in head)
+item_parts (fixed head) = argument_parts (codes " ") note (string_in head)
 item_parts (entry e) = []
 item_parts (named_count n) = []
-item_parts (named of own head) = word (codes " ") ∷ note (line.text own) ∷ argument_parts (codes "=") (string_in head)
+item_parts (named of own head) = word (codes " ") ∷ note (line.text own) ∷ argument_parts (codes "=") note (string_in head)
 
 -- the first argument, which is in JSON too
-abbrev pub string_parts : Option Value → List Part
-string_parts None = []
-string_parts (Some of) = word (codes " ") ∷ field name.Text of ∷ []
-
 abbrev pub first_parts : Item → List Part
-first_parts (fixed head) = string_parts (string_in head)
+first_parts (fixed head) = argument_parts (codes " ") (field name.Text) (string_in head)
 first_parts _ = []
 
 abbrev pub items_parts : List Item → List Part

@@ -14,23 +14,11 @@ use Rattle.cli_lines.specs.Lines.{Part, word, field, member, note, number, plain
 use Rattle.cli_info.specs.declared.identities.Kind.{Kind}
 use Rattle.cli_info.specs.declared.identities.Kind.TheVariants.{Assembly, Reference}
 
--- the table of a kind, and the index of the cell with the major version; from it on eight cells are the same in both tables
-abbrev pub table_of : Kind → TableId
-table_of Assembly = table.Assembly
-table_of Reference = table.AssemblyRef
-
-abbrev pub first_cell : Kind → ℕ
-first_cell Assembly = 1
-first_cell Reference = 0
-
--- the word and the name that the line of a kind begins with
-abbrev pub word_of : Kind → List ℕ
-word_of Assembly = codes "assembly "
-word_of Reference = codes "reference "
-
-abbrev pub name_of : Kind → Name
-name_of Assembly = name.Assembly
-name_of Reference = name.Reference
+-- of a kind the table, the index of the cell with the major version, and the word and the name that its line begins with; from that
+-- cell on eight cells are the same in both tables
+abbrev pub shape : Kind → TableId × ℕ × List ℕ × Name
+shape Assembly = (table.Assembly, 1, codes "assembly ", name.Assembly)
+shape Reference = (table.AssemblyRef, 0, codes "reference ", name.Reference)
 
 -- a reference has the token of a key, unless the lowest of its flags is set (II.23.1.2)
 abbrev pub has_token : Kind → ℕ → Bool
@@ -81,15 +69,15 @@ shown_part of = note (plain (display_name of))
 -- the identity in these cells of a row, in this order: four numbers of the version, flags, key, name and culture
 abbrev pub identity_in : Kind → (ℕ → Cell) → List Part
 identity_in kind cell =
-    word (word_of kind) ∷ member (name_of kind) (text (text_in (cell 6))) ∷ shown_part (text_in (cell 6))
+    word (shape kind).2 ∷ member (shape kind).3 (text (text_in (cell 6))) ∷ shown_part (text_in (cell 6))
     ∷ word (codes ", Version=") ∷ field name.Major (number (number_in (cell 0))) ∷ word (codes ".") ∷ field name.Minor (number (number_in (cell 1)))
     ∷ word (codes ".") ∷ field name.Build (number (number_in (cell 2))) ∷ word (codes ".") ∷ field name.Revision (number (number_in (cell 3)))
     ∷ word (codes ", Culture=") ∷ member name.Culture (text (culture_text (text_in (cell 7)))) ∷ shown_part (culture_text (text_in (cell 7)))
     ∷ word (codes ", PublicKeyToken=") ∷ field name.Token (plain (token_text kind (number_in (cell 4)) (bytes_in (cell 5)))) ∷ []
 
 unfoldable pub identity_line : Kind → Metadata → ℕ → List Part
-identity_line kind model row = identity_in kind (λ index. cell_in model (table_of kind) row (first_cell kind + index))
+identity_line kind model row = identity_in kind (λ index. cell_in model (shape kind).0 row ((shape kind).1 + index))
 
 -- the identities in all rows of a table, in order
 abbrev pub identity_lines : Kind → Metadata → List (List Part)
-identity_lines kind model = map (identity_line kind model) (range_with_len 1 (count_in model (table_of kind)))
+identity_lines kind model = map (identity_line kind model) (range_with_len 1 (count_in model (shape kind).0))

@@ -1,5 +1,5 @@
 -- What `clim resources` prints: where each resource of a file is, or the content of one; and why it is not found (ECMA-335 II.22.24).
-use Rattle.std.specs.Prelude.{◌≡◌, ℕ, ◌==◌, ◌<◌, ◌≤◌, if◌then◌else◌, List, [], ◌∷◌, codes, length, map}
+use Rattle.std.specs.Prelude.{◌≡◌, ℕ, ◌==◌, ◌<◌, ◌≤◌, if◌then◌else◌, List, [], ◌∷◌, ◌++◌, codes, length, map}
 use Rattle.std.specs.List.{range_with_len}
 use Rattle.packed.specs.Rule.{FirstBroken}
 use Rattle.cli_header.specs.declared.header.CliHeader.{CliHeader}
@@ -37,25 +37,21 @@ holder model AssemblyRef row = field name.Assembly (text (text_in (cell_in model
 holder model ExportedType row = field name.Type (text (text_in (cell_in model ExportedType row 2)))
 holder model _ row = field name.Type (text [])
 
--- the line of a resource in this file: the offset and the size of its content, its visibility and its name
-unfoldable pub here_line : Token → ℕ → List ℕ → ℕ → List ℕ → List Part
-here_line row offset content flags of =
-    opens name.Resource ∷ member name.Token (token row) ∷ word (codes "resource ") ∷ field name.Offset (number offset)
-    ∷ word (codes " ") ∷ field name.Size (number (length content)) ∷ word (codes " ") ∷ field name.Visibility (visibility flags)
-    ∷ word (codes " ") ∷ field name.Name (text of) ∷ closes ∷ []
+-- where a resource is: the offset and the size of its content in this file, or what has it
+abbrev pub place_of : Metadata → Where → List Part
+place_of model (here offset content) =
+    word (codes "resource ") ∷ field name.Offset (number offset) ∷ word (codes " ") ∷ field name.Size (number (length content)) ∷ []
+place_of model (elsewhere of) = word (codes "resource in ") ∷ holder model of.table of.row ∷ []
 
--- the line of another resource: what has it, its visibility and its name
-unfoldable pub elsewhere_line : Token → Part → ℕ → List ℕ → List Part
-elsewhere_line row having flags of =
-    opens name.Resource ∷ member name.Token (token row) ∷ word (codes "resource in ") ∷ having
-    ∷ word (codes " ") ∷ field name.Visibility (visibility flags) ∷ word (codes " ") ∷ field name.Name (text of) ∷ closes ∷ []
+-- the line of a resource: where it is, its visibility and its name
+unfoldable pub line_of : Token → List Part → ℕ → List ℕ → List Part
+line_of row place flags of =
+    opens name.Resource ∷ member name.Token (token row) ∷ place
+    ++ word (codes " ") ∷ field name.Visibility (visibility flags) ∷ word (codes " ") ∷ field name.Name (text of) ∷ closes ∷ []
 
--- the line of the resource in a row, which is at this location
 abbrev pub resource_line : Metadata → ℕ → Where → List Part
-resource_line model row (here offset content) =
-    here_line (resource_in row) offset content (number_in (cell_in model ManifestResource row 1)) (text_in (cell_in model ManifestResource row 2))
-resource_line model row (elsewhere of) =
-    elsewhere_line (resource_in row) (holder model of.table of.row) (number_in (cell_in model ManifestResource row 1)) (text_in (cell_in model ManifestResource row 2))
+resource_line model row location =
+    line_of (resource_in row) (place_of model location) (number_in (cell_in model ManifestResource row 1)) (text_in (cell_in model ManifestResource row 2))
 
 -- the resource in each row is at its location
 abbrev pub AreLocations : List ℕ → CliHeader → Metadata → (ℕ → Where) → Type 0

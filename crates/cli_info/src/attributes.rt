@@ -7,16 +7,16 @@ ghost use Rattle.blob_values.specs.Views.{head_view, view};
 ghost use Rattle.metadata.specs.Metadata.{Metadata};
 ghost use Rattle.metadata.specs.Model.{IsModel};
 ghost use Rattle.opening.specs.Views.{row_count};
-ghost use Rattle.cli_print.specs.TypeLines.{dot_after};
+ghost use Rattle.cli_lines.specs.Lines.{note};
 ghost use Rattle.cli_lines.specs.Printed.{Adds, Prints};
 ghost use Rattle.cli_lines.specs.Shown.{shown_value};
-ghost use Rattle.cli_info.specs.Attributes.{are_texts, argument_parts, attribute_lines, attributes_lines, first_parts, has_types, is_assembly, is_own, is_text, item_parts, items_parts, lines_of_type, more_lines, string_in, texts_in};
+ghost use Rattle.cli_info.specs.Attributes.{are_texts, argument_parts, attribute_lines, attributes_lines, first_parts, has_types, is_assembly, is_own, is_text, item_parts, items_parts, lines_of_type, string_in, texts_in};
 
 use blob_values::{Argument, ArgumentType, Item, Items, Scalar, Value as Given};
 use cli_lines::Part::{Field, Member, Note, Word};
 use cli_lines::Value::{Null, Number, Plain, Quoted, Text};
 use cli_lines::{Name, Printer, Value};
-use cli_print::{NAME, NAMESPACE};
+use cli_print::{NAME, NAMESPACE, dot_after};
 use custom_attributes::{constructor, params_of, type_of};
 use navigation::{Neighbours, cells};
 use opening::{TableId, Token, View, bytes_or_empty, text_or_empty};
@@ -87,12 +87,11 @@ fn texts_in<'a, 'p>(value: &'a [u8], params: &'p [ArgumentType]) -> Option<Items
 
 /// Adds an argument, if it is a string, after what is before it.
 fn print_argument<W: Write>(before: &str, argument: Argument<'_>, out: &mut Printer<'_, W>)
-    ensures { Adds out.old out.new (argument_parts before.now (string_in (head_view argument.entry))) }
+    ensures { Adds out.old out.new (argument_parts before.now note (string_in (head_view argument.entry))) }
 {
     cli_lines::laws::parts_follow::<W>();
     if let Some(text) = string_in(argument) {
-        out.part(&Word(before));
-        out.part(&Note(text));
+        out.parts(&[Word(before), Note(text)]);
     }
 }
 
@@ -106,8 +105,7 @@ fn print_item<W: Write>(item: Item<'_>, out: &mut Printer<'_, W>)
         Item::Element(_) => {}
         Item::NamedCount(_) => {}
         Item::Named(_, name, argument) => {
-            out.part(&Word(" "));
-            out.part(&Note(Text(name)));
+            out.parts(&[Word(" "), Note(Text(name))]);
             print_argument("=", argument, out);
         }
     }
@@ -120,8 +118,7 @@ fn print_first<W: Write>(item: Item<'_>, out: &mut Printer<'_, W>)
     cli_lines::laws::parts_follow::<W>();
     if let Item::Fixed(argument) = item {
         if let Some(text) = string_in(argument) {
-            out.part(&Word(" "));
-            out.part(&Field(Name::Text, text));
+            out.parts(&[Word(" "), Field(Name::Text, text)]);
         }
     }
 }
@@ -138,13 +135,6 @@ fn print_items<W: Write>(mut items: Items<'_, '_>, out: &mut Printer<'_, W>)
     for item in items {
         print_item(item, out);
     }
-}
-
-/// What is between a namespace and a name.
-fn dot_after(namespace: &str) -> &'static str
-    ensures { result.now ≡ dot_after namespace.now }
-{
-    if namespace.is_empty() { "" } else { "." }
 }
 
 /// Whether the rows of a table are types. Their names are in the same cells in both tables.
@@ -229,20 +219,6 @@ fn print_attribute<W: Write>(source: &Neighbours<'_, '_>, row: u32, out: &mut Pr
     }
 }
 
-/// Prints the number of attributes that are not read, if there are any.
-fn print_more<W: Write>(number: u32, out: &mut Printer<'_, W>)
-    ensures { Prints out.old out.new (more_lines number) }
-{
-    cli_lines::laws::lines_follow::<W>();
-    if number > 0 {
-        out.line(&[
-            Member(Name::Directive, Plain("attributes")),
-            Word("more attributes "),
-            Field(Name::Left, Number(number as u64)),
-        ]);
-    }
-}
-
 /// Prints the lines of the first attributes of the assembly whose arguments are all strings, and the number of the others.
 pub(crate) fn print_attributes<W: Write>(alloc: Global, view: &View<'_>, out: &mut Printer<'_, W>)
     ensures { (model : Metadata) → IsModel view.now model → Prints out.old out.new (attributes_lines model) }
@@ -262,5 +238,13 @@ pub(crate) fn print_attributes<W: Write>(alloc: Global, view: &View<'_>, out: &m
         }
         own += 1;
     }
-    print_more(own.saturating_sub(ATTRIBUTE_LIMIT), out);
+    let others = own.saturating_sub(ATTRIBUTE_LIMIT);
+    if others == 0 {
+        return;
+    }
+    out.line(&[
+        Member(Name::Directive, Plain("attributes")),
+        Word("more attributes "),
+        Field(Name::Left, Number(others as u64)),
+    ]);
 }

@@ -1,7 +1,7 @@
 //! Prints the identities of assemblies, as .NET prints them (II.22.2 and II.22.5).
 ghost use Rattle.std.specs.Prelude.{◌≡◌, ◌≤◌, ◌∷◌, [], IfOk, Some, string_bytes};
 ghost use Rattle.std.specs.Fmt.{WritesOnOk};
-ghost use Rattle.cli_info.specs.Identities.{culture_text, display_byte, display_bytes, display_name, identity_line, identity_lines, needs_quotes, table_of, token_text};
+ghost use Rattle.cli_info.specs.Identities.{culture_text, display_byte, display_bytes, display_name, identity_line, identity_lines, needs_quotes, shape, token_text};
 ghost use Rattle.cli_lines.specs.Printed.{Prints};
 ghost use Rattle.metadata.specs.Metadata.{Metadata};
 ghost use Rattle.metadata.specs.Model.{IsModel};
@@ -40,17 +40,17 @@ pub(crate) enum Kind {
 impl Kind {
     ghost use Rattle.std.specs.Prelude.{◌<◌, ◌+◌};
     ghost use Rattle.table_schema.specs.CellColumns.{cell_count};
-    ghost use Rattle.cli_info.specs.Identities.{first_cell, has_token, name_of, table_of, word_of};
+    ghost use Rattle.cli_info.specs.Identities.{has_token, shape};
 
     /// The table, and the index of the cell with the major version. From it on eight cells are the same in both tables. The word
     /// and the name that its line begins with.
     #[tactic(auto, unfolding(table_schema::specs::CellColumns::cell_columns))]
     fn shape(self) -> (TableId, usize, &'static str, Name)
-        ensures table { result.0 ≡ table_of self }
-        ensures first { result.1 ≡ first_cell self }
+        ensures table { result.0 ≡ (shape self).0 }
+        ensures first { result.1 ≡ (shape self).1 }
         ensures within { result.1 + 7 < cell_count result.0 }
-        ensures word { result.2.now ≡ word_of self }
-        ensures name { result.3 ≡ name_of self }
+        ensures word { result.2.now ≡ (shape self).2 }
+        ensures name { result.3 ≡ (shape self).3 }
     {
         match self {
             Kind::Assembly => (TableId::Assembly, 1, "assembly ", Name::Assembly),
@@ -72,56 +72,54 @@ impl Kind {
 
 /// The key that was hashed last, and its SHA-1. Rows often have the same key, which is then hashed once.
 #[derive(Drop)]
-struct LastKey {
-    key: Vec<u8>,
+struct LastKey<'a> {
+    key: &'a [u8],
     digest: [u8; DIGEST_SIZE],
 }
 
-impl Model for LastKey {
+impl<'a> Model for LastKey<'a> {
     ghost use Rattle.std.specs.Prelude.{◌≡◌, List, ℕ};
     ghost use Rattle.sha1.specs.Sha1.{sha1};
 
     ghost Value = { List ℕ };
 
-    ghost view = { λ last. last.key.items };
+    ghost view = { λ last. last.key.now };
 
-    ghost invariant = { λ last. last.digest ≡ sha1 last.key.items };
+    ghost invariant = { λ last. last.digest ≡ sha1 last.key.now };
 }
 
-impl LastKey {
+impl<'a> LastKey<'a> {
     /// The empty key.
-    fn new(alloc: Global) -> LastKey {
+    fn new() -> LastKey<'a> {
+        let key: &[u8] = &[];
         LastKey {
-            key: Vec::new(alloc),
-            digest: Sha1::digest(b""),
+            key,
+            digest: Sha1::digest(key),
         }
     }
 
     /// The SHA-1 of a key, which is the last one from now on.
-    fn digest_of(&mut self, alloc: Global, key: &[u8]) -> Result<[u8; DIGEST_SIZE], AllocError>
-        ensures { IfOk result (λ digest. digest ≡ sha1 key.now) }
+    fn digest_of(&mut self, key: &'a [u8]) -> [u8; DIGEST_SIZE]
+        ensures { result ≡ sha1 key.now }
     {
-        if self.key.as_slice() == key {
-            return Ok(self.digest);
+        if self.key == key {
+            return self.digest;
         }
         let digest = Sha1::digest(key);
-        *self = LastKey {
-            key: Vec::from_slice(alloc, key)?,
-            digest,
-        };
-        Ok(digest)
+        *self = LastKey { key, digest };
+        digest
     }
 }
 
 /// The token of a key in hexadecimal: the last eight bytes of its SHA-1 in reverse order (II.6.3), unless it is a token
 /// already. It is `null` if there is no key, and `?` if it is too long.
 #[tactic(auto, unfolding(crate::specs::Identities::token_text))]
-fn token_text(
+fn token_text<'a>(
     alloc: Global,
     kind: Kind,
     flags: u32,
-    key: &[u8],
-    last: &mut LastKey,
+    key: &'a [u8],
+    last: &mut LastKey<'a>,
 ) -> Result<String, AllocError>
     ensures { IfOk result (λ text. string_bytes text ≡ token_text kind flags key.now) }
 {
@@ -134,7 +132,7 @@ fn token_text(
     if kind.has_token(flags) {
         return hex::encode(alloc, key);
     }
-    let mut digest = last.digest_of(alloc, key)?;
+    let mut digest = last.digest_of(key);
     digest.reverse();
     let (token, _) = digest.split_at(TOKEN_SIZE);
     hex::encode(alloc, token)
@@ -212,16 +210,16 @@ fn write_byte<W: fmt::Write>(byte: u8, f: &mut fmt::Formatter<W>) -> fmt::Result
 
 /// Prints the identity in a row.
 #[tactic(auto, unfolding(crate::specs::Identities::identity_line))]
-fn print_identity<W: Write>(
+fn print_identity<'a, W: Write>(
     alloc: Global,
-    view: &View<'_>,
+    view: &View<'a>,
     kind: Kind,
     row: u32,
-    last: &mut LastKey,
+    last: &mut LastKey<'a>,
     out: &mut Printer<'_, W>,
 )
     requires first { 1 ≤ row }
-    requires last { row ≤ row_count view.now (table_of kind) }
+    requires last { row ≤ row_count view.now (shape kind).0 }
     ensures { (model : Metadata) → IsModel view.now model → Prints out.old out.new (identity_line kind model row ∷ []) }
 {
     let (table, first, word, name) = kind.shape();
@@ -271,7 +269,7 @@ pub(crate) fn print_identities<W: Write>(
 {
     cli_lines::laws::lines_follow::<W>();
     let (table, _, _, _) = kind.shape();
-    let mut last = LastKey::new(alloc);
+    let mut last = LastKey::new();
     for earlier in 0..view.count(table) {
         print_identity(alloc, view, kind, earlier + 1, &mut last, out);
     }

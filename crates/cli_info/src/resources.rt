@@ -1,14 +1,12 @@
 //! `clim resources`: where each resource of a file is, and the content of one.
 ghost use Rattle.std.specs.Prelude.{◌≡◌, ◌≤◌, ◌∷◌, [], ℕ, List, IfErr, IfNone, IfOk, IfSome, OnErr, OnOk};
 ghost use Rattle.cli_header.specs.declared.header.CliHeader.{CliHeader as Header};
-ghost use Rattle.cli_files.specs.Checked.{IsWhole};
-ghost use Rattle.cli_files.specs.declared.opened.Input.TheVariants.{File};
 ghost use Rattle.cli_lines.specs.Lines.{field, text as is_text};
 ghost use Rattle.cli_lines.specs.Printed.{Prints};
 ghost use Rattle.cli_lines.specs.Shown.{shown_value};
 ghost use Rattle.cli_info.specs.Resources.{AreAllLocated, AreLocations, IsContentOf, IsFirstOutside, IsUnfound, IsUnlisted, OfFile, holder, resource_in, resource_line, resource_lines, visibility};
 ghost use Rattle.metadata.specs.Metadata.{Metadata};
-ghost use Rattle.metadata.specs.Model.{IsModel, IsModelOfFile};
+ghost use Rattle.metadata.specs.Model.{IsModel};
 ghost use Rattle.metadata.specs.Rules.{rules_of_file};
 ghost use Rattle.opening.specs.Views.{row_count};
 ghost use Rattle.packed.specs.Rule.{FirstBroken};
@@ -216,11 +214,9 @@ fn print_rows<W: Write>(directory: Option<Directory<'_>>, view: &View<'_>, out: 
 pub fn print_resources<W: Write>(file: &[u8], out: &mut Printer<'_, W>) -> Result<(), Stop<'static>>
     ensures first_error { IfErr result (IsUnlisted file.now) }
     ensures untouched { OnErr result (out.new ≡ out.old) }
-    ensures whole { OnOk result (IsWhole File file.now) }
-    ensures located { OnOk result ((header : Header) (model : Metadata) → IsModelOfFile file.now header model → AreAllLocated file.now header model) }
-    // Wherever the resources are: each has one location at most.
-    ensures printed { OnOk result ((header : Header) (model : Metadata) → IsModelOfFile file.now header model
-        → (locations : ℕ → Where) → AreLocations file.now header model locations → Prints out.old out.new (resource_lines model locations)) }
+    // Each resource is somewhere, and has one location at most.
+    ensures printed { OnOk result (OfFile file.now (λ header model. AreAllLocated file.now header model
+        × ((locations : ℕ → Where) → AreLocations file.now header model locations → Prints out.old out.new (resource_lines model locations)))) }
 {
     let (directory, view) = match open_file(file) {
         Ok(opened) => opened,

@@ -82,25 +82,8 @@ pub fn nearest_column(alloc: Global, word: &str) -> Option<(TableId, &'static st
 }
 
 /// The names of all subcommands, that of `help` too.
-const COMMANDS: [&str; 17] = [
-    "root",
-    "info",
-    "check",
-    "show",
-    "types",
-    "outline",
-    "refs",
-    "resources",
-    "strings",
-    "token",
-    "where",
-    "rewrite",
-    "embed",
-    "digest",
-    "compare",
-    "explain",
-    "help",
-];
+const COMMANDS: &str =
+    "root info check show types outline refs resources strings token where rewrite embed digest compare explain help";
 
 /// The subcommand whose name is nearest to the one that `help` is asked for, by these arguments, the program name not among
 /// them; `None` if all are far. Of several the first one. For any other argument `clap` has a hint of its own.
@@ -108,5 +91,6 @@ pub fn nearest_command(alloc: Global, words: &[&str]) -> Option<&'static str> {
     let ["help", word, ..] = words else {
         return None;
     };
-    nearest_of(alloc, word, &COMMANDS, |command| command)
+    let names: Vec<&str> = COMMANDS.split(' ').collect(alloc).ok()?;
+    nearest_of(alloc, word, names.as_slice(), |command| command)
 }

@@ -227,19 +227,19 @@ fn several_types<'a>(
     Ok((types.listed.len() > 1).then_some(types))
 }
 
-/// Reports that no type has this path, or that there is no such row if none was given. If several types of the assembly have
-/// this name, their full names follow. Otherwise a hint follows with that of the nearest type, unless all are far. It looks at each type twice.
-/// If the report cannot be written, nothing else changes.
+/// Reports that no type has this path. If several types of the assembly have this name, their full names follow. Otherwise a hint
+/// follows with that of the nearest type, unless all are far. It looks at each type twice. If the report cannot be written, nothing
+/// else changes.
 pub fn report_missing_type<E: Write>(
     alloc: Global,
     bytes: &[u8],
     input: Input,
     types: Types,
-    path: Option<&str>,
+    path: &str,
     err: &mut E,
 ) {
-    let nearest = match (path, open(bytes, input)) {
-        (Some(path), Ok(view)) => {
+    let nearest = match open(bytes, input) {
+        Ok(view) => {
             if let (Types::Declared, Ok(Some(several))) = (
                 types,
                 several_types(alloc, &view, path),
@@ -249,7 +249,7 @@ pub fn report_missing_type<E: Write>(
             }
             nearest_type(alloc, &view, types, wanted_names(path))
         }
-        _ => None,
+        Err(_) => None,
     };
     let _ = send_message(alloc, &MissingType(nearest), err);
 }

@@ -20,5 +20,5 @@ pub use digest_line::print_digest;
 pub use explanations::{print_explanation, print_explanations};
 pub use readable_lines::print_root_until_fault;
 pub use root_lines::{print_root, print_version};
-pub use type_lines::{NAME, NAMESPACE, print_types};
+pub use type_lines::{NAME, NAMESPACE, dot_after, print_types};
 pub use verdicts::print_verdict;

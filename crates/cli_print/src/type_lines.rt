@@ -71,7 +71,7 @@ fn count_of(rows: Range<u32>) -> u32
 }
 
 /// The dot after a namespace.
-fn dot_after(namespace: &str) -> &'static str
+pub fn dot_after(namespace: &str) -> &'static str
     ensures { result.now ≡ dot_after namespace.now }
 {
     if namespace.is_empty() { "" } else { "." }

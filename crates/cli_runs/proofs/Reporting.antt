@@ -1,8 +1,7 @@
 -- What a printer was asked to print of a report, and what went out of it.
-use Rattle.cli_runs.proofs.Prelude.{◌≡◌, ◌≢◌, ℕ, List, [], ◌∷◌, ◌++◌, Option, None, Some, Result, Ok, Err, append-nil, refl, sym, subst, inl, inr, IfErr, IsSome, OnOk, Fault, Token, Metadata, IsOutput, Failure, Input, BareRoot, File, Part, Style, styled_text, Asked, Printed, Prints, Sent, OutlineOptions, HasPrinted, UnlessFailed, AreDeclared, AreNamed, AreSomeDeclared, HasEnded, entered, IsFaultOut, IsListed, IsPrinted, IsStopped, OfModel, everything, lead_of, style_of, AreCut, AreSent, IsReported, Listing, Request}
+use Rattle.cli_runs.proofs.Prelude.{Appends, ◌≡◌, ◌≢◌, ℕ, List, [], ◌∷◌, ◌++◌, Option, None, Some, Result, Ok, Err, append-nil, refl, sym, subst, inl, inr, IfErr, IsSome, OnOk, Fault, Token, Metadata, IsOutput, Failure, Input, BareRoot, File, Part, Style, styled_text, Asked, Printed, Prints, Sent, OutlineOptions, HasPrinted, UnlessFailed, AreDeclared, AreNamed, AreSomeDeclared, HasEnded, entered, IsFaultOut, IsListed, IsPrinted, IsStopped, OfModel, everything, lead_of, style_of, AreCut, AreSent, IsReported, Listing, Request, IsRefused}
 use Rattle.cli_runs.specs.declared.report.Job.{Job}
 use Rattle.std.specs.Result.{result_and}
-use Rattle.std.specs.Io.KnownBytes.{Appends}
 use Rattle.cli_faults.specs.declared.stop.Stop.{Stop}
 use Rattle.cli_faults.specs.declared.stop.Stop.TheVariants.{BudgetSpent}
 use Rattle.cli_header.specs.declared.header.CliHeader.{CliHeader}
@@ -12,7 +11,6 @@ use Rattle.cli_info.specs.Resources.{IsUnlisted}
 use Rattle.cli_outline.specs.Printed.{PrintsRows, PrintsSome}
 use Rattle.cli_regions.specs.Regions.{Region}
 use Rattle.cli_where.specs.Located.{HasContents, where_lines}
-use Rattle.cli_runs.specs.Reports.{IsRefused}
 use Rattle.cli_runs.specs.declared.report.Ended.{Ended}
 use Rattle.cli_runs.specs.declared.report.Ended.TheVariants as ended
 use Rattle.cli_runs.specs.declared.report.Listing.TheVariants as listing

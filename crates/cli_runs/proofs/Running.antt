@@ -1,6 +1,6 @@
 -- Runs on several files, one after another.
-use Rattle.cli_runs.proofs.Prelude.{◌≡◌, ◌<◌, ◌+◌, ◌&&◌, ◌||◌, ◌⊎◌, ℕ, Bool, true, false, Result, Ok, Err, List, [], ◌∷◌, ◌++◌, map, drop, get_or, length, max, Option, refl, arith, inl, inr, Bor, drop_more, Failure, NotUtf8, IsUnread, AreRun, AreRunAll, AreVisited, EndsAs, IsCutAmong, IsCutIn, IsNext, IsRun, is_input, Request}
-use Rattle.cli_faults.specs.Status.{status_of}
+use Rattle.cli_runs.proofs.Prelude.{◌≡◌, ◌<◌, ◌+◌, ◌&&◌, ◌||◌, ◌⊎◌, ℕ, Bool, true, false, List, [], ◌∷◌, ◌++◌, map, drop, get_or, length, max, Option, refl, arith, inl, inr, Bor, drop_more, Failure, NotUtf8, IsUnread, AreRun, AreVisited, IsCutIn, IsNext, IsRun, IsVisited, RunsOne, is_input, Request}
+use Rattle.std.proofs.lemmas.Fn.{FoldsTo-push}
 use Rattle.cli_files.specs.Read.{IsRefused}
 use Rattle.cli_runs.specs.declared.report.Directories.TheVariants.{Walked}
 
@@ -12,12 +12,6 @@ pub unread_refused : (file : List ℕ) (failure : Failure) → IsUnread file fai
 unread_refused file (NotUtf8 name) is = absurd is
 unread_refused file _ is = is
 
--- what follows from how a run ended
-pub ends_weaker : {E F : Type 0} (before after : E) (P Q : ℕ → Type 0) (cut other : Type 0) (result : Result ℕ F) → ((status : ℕ) → P status → Q status) → (cut → other)
-    → EndsAs before after P cut result → EndsAs before after Q other result
-ends_weaker before after P Q cut other (Ok status) ended failed out = (out.0, out.1, ended status out.2)
-ends_weaker before after P Q cut other (Err failure) ended failed out = failed out
-
 module _ (request : Request) {W : Type 0} (contents : W → Option (List ℕ)) where
   -- the run on an argument ended that is not the standard input again
   pub next_run : (again : Bool) (before after : W) (name : List ℕ) (status : ℕ) → again ≡ false
@@ -26,33 +20,12 @@ module _ (request : Request) {W : Type 0} (contents : W → Option (List ℕ)) w
   next_run true before after name status first run = cc
   next_run false before after name status first run = run
 
-  -- the run on one file of a directory ended
-  pub one_visited : (before after : W) (name : List ℕ) (status : ℕ) → IsRun request contents before after name status → AreVisited request contents before after status
-  one_visited before after name status run = (name ∷ [], (after, status, 0, run, (refl, refl), omega arith))
-
-  -- a file of a directory was not read
-  pub unread_visited : (here : W) (name : List ℕ) (failure : Failure) (status : ℕ) → IsRefused name failure → status ≡ status_of failure
-      → AreVisited request contents here here status
-  unread_visited here name failure status refused is = one_visited here here name status (Err failure, (refused, is, refl))
-
-  all_more : (before between after : W) (found more : List (List ℕ)) (first later status : ℕ) → status ≡ max first later
-      → AreRunAll request contents before between found first → AreRunAll request contents between after more later
-      → AreRunAll request contents before after (found ++ more) status
-  all_more before between after [] more first later status is ran runs =
-      let same : status ≡ later = omega (arith, is, ran.1) in
-      rw same (rw ran.0 at runs)
-  all_more before between after (name ∷ found) more first later status is ran runs =
-      (ran.0, ran.1, max ran.2 later, ran.3, all_more ran.0 between after found more ran.2 later (max ran.2 later) refl ran.4 runs, omega (arith, is, ran.5))
-
-  -- the runs on more files of a directory ended
+  -- the run on one more file of a directory ended, or it was passed over
   pub visited_more : (before between after : W) (first later status : ℕ) → status ≡ max first later → AreVisited request contents before between first
-      → AreVisited request contents between after later → AreVisited request contents before after status
-  visited_more before between after first later status is ran runs = (ran.0 ++ runs.0, all_more before between after ran.0 runs.0 first later status is ran.1 runs.1)
-
-  -- the output failed at one of more files of a directory
-  pub cut_more : (before between after : W) (first : ℕ) → AreVisited request contents before between first → IsCutAmong request contents between after
-      → IsCutAmong request contents before after
-  cut_more before between after first ran cut = (cut.0, max first cut.1, visited_more before between cut.0 first cut.1 (max first cut.1) refl ran cut.2, cut.3)
+      → IsVisited request contents between after later → AreVisited request contents before after status
+  visited_more before between after first later status is ran (inl none) = let same : status ≡ first = omega (arith, is, none.1) in rw (none.0, same) ran
+  visited_more before between after first later status is ran (inr run) =
+      (ran.0 ++ run.0 ∷ [], FoldsTo-push (RunsOne request contents) (before, 0) ran.0 (between, first) run.0 (after, status) ran.1 (later, run.1, is))
 
   -- the runs on these files complete the runs on all of them, if the greatest exit code so far is this; of the flags one says
   -- whether the standard input was read before the first of all, and one before the first of these

@@ -1,6 +1,5 @@
 -- What each report prints of the bytes of a file, and when it prints nothing.
-use Rattle.std.specs.Prelude.{◌≡◌, ◌≢◌, ◌⊎◌, ℕ, Bool, true, false, List, [], ◌∷◌, ◌++◌, flat_map, map, MatchOption, Option, None, Some}
-use Rattle.std.specs.List.{All}
+use Rattle.std.specs.Prelude.{◌≡◌, ◌≢◌, ◌⊎◌, ℕ, Bool, true, false, List, [], ◌∷◌, ◌++◌, flat_map, map, MatchOption, Option, None, Some, All}
 use Rattle.hex.specs.Hex.{encode_lower}
 use Rattle.sha2.specs.Sha256.{sha256}
 use Rattle.packed.specs.Codes.{number_of_code}
@@ -14,10 +13,9 @@ use Rattle.table_schema.specs.Tokens.{IsToken}
 use Rattle.cli_header.specs.declared.header.CliHeader.{CliHeader}
 use Rattle.root.specs.Streams.{RootRead}
 use Rattle.metadata.specs.Metadata.{Metadata}
-use Rattle.metadata.specs.Model.{IsModelOfFile, has_native_entry_point}
+use Rattle.metadata.specs.Model.{has_native_entry_point}
 use Rattle.file_ranges.specs.Resources.{Where}
-use Rattle.cli_info.specs.Resources.{AreLocations, resource_lines}
-use Rattle.cli_info.specs.Resources.{AreAllLocated, IsUnlisted}
+use Rattle.cli_info.specs.Resources.{AreAllLocated, AreLocations, IsUnlisted, OfFile, resource_lines}
 use Rattle.cli_faults.specs.declared.failure.Failure.TheVariants.{Fault, NoSuchRow, OutOfMemory}
 use Rattle.cli_faults.specs.declared.stop.Stop.{Stop}
 use Rattle.cli_faults.specs.declared.stop.Stop.TheVariants.{Broken, BudgetSpent, Failed, NoSuchType, NothingAt}
@@ -26,7 +24,6 @@ use Rattle.cli_lines.specs.declared.parts.Form.TheVariants.{Text}
 use Rattle.cli_lines.specs.Lines.{Part, Style, style}
 use Rattle.cli_files.specs.Checked.{IsModelOf, IsOpened, IsWhole, rules_of}
 use Rattle.cli_files.specs.declared.opened.Input.{Input}
-use Rattle.cli_files.specs.declared.opened.Input.TheVariants.{File}
 use Rattle.cli_files.specs.Heads.{AreHeads, HasHeads, rules_of_heads}
 use Rattle.cli_cells.specs.Before.{AreLinesBefore}
 use Rattle.cli_cells.specs.RowLines.{show_lines}
@@ -213,8 +210,7 @@ module _ (Out : List (List Part) → Type 0) (UnlessFailed : Type 0 → Type 0) 
     IsPrinted report.Strings =
         OfModel request.input bytes (λ model. (entries : List Entry) × AreEntries model.user 1 entries × Out (flat_map entry_lines entries))
     IsPrinted report.Resources =
-        IsWhole File bytes
-        × ((header : CliHeader) (model : Metadata) → IsModelOfFile bytes header model → AreAllLocated bytes header model
+        OfFile bytes (λ header model. AreAllLocated bytes header model
         × ((locations : ℕ → Where) → AreLocations bytes header model locations → Out (resource_lines model locations)))
     IsPrinted (report.Listing listing) = OfModel request.input bytes (IsListed listing)
     IsPrinted (report.Check verdict) = IsWhole request.input bytes × Out (verdict_lines verdict (label request.naming name) None)

@@ -1,8 +1,7 @@
 -- What a run prints of the bytes of one file, and of several files.
-use Rattle.std.specs.Prelude.{◌≡◌, ◌≤◌, ℕ, ◌-◌, ◌==◌, ◌⊎◌, ◌&&◌, ◌||◌, Bool, true, false, List, [], ◌∷◌, codes, drop, length, take, max, if◌then◌else◌, Option, Result, Ok, Err, IfErr, MatchResult, OnOk}
+use Rattle.std.specs.Prelude.{◌≡◌, ◌≤◌, ℕ, ◌-◌, ◌==◌, ◌⊎◌, ◌&&◌, ◌||◌, Bool, true, false, List, [], ◌∷◌, codes, drop, length, take, max, if◌then◌else◌, Option, Result, Ok, Err, MatchResult, bytes_eq}
 use Rattle.std.specs.Io.KnownBytes.{Appends}
-use Rattle.std.specs.List.{slice_split}
-use Rattle.std.specs.Str.{bytes_eq}
+use Rattle.std.specs.List.{FoldsTo, slice_split}
 use Rattle.packed.specs.declared.code.FaultCode.{FaultCode}
 use Rattle.cli_faults.specs.Status.{IsOutput, status_of}
 use Rattle.cli_faults.specs.Stops.{status_of_stop}
@@ -16,7 +15,7 @@ use Rattle.cli_files.specs.declared.opened.Input.TheVariants.{File}
 use Rattle.cli_info.specs.Resources.{IsContentOf, IsUnfound}
 use Rattle.cli_lines.specs.declared.parts.Form.{Form}
 use Rattle.cli_lines.specs.Lines.{Part, report_text, styled_text}
-use Rattle.cli_sending.specs.Sent.{SendsPrefix, Sent}
+use Rattle.cli_sending.specs.Sent.{SendsPrefix}
 use Rattle.cli_print.specs.Explanations.{AreExplanations}
 use Rattle.cli_runs.specs.Reports.{HasEnded, style_of}
 use Rattle.cli_runs.specs.declared.listed.Separator.{Separator}
@@ -54,11 +53,12 @@ names_in separator given = if length given == 0 then [] else slice_split (λ byt
 abbrev pub is_input : List ℕ → Bool
 is_input name = bytes_eq name (codes "-")
 
--- the explanations of these rules went out; or the output failed after a prefix of them
-abbrev pub IsExplained : Form → List FaultCode → Option (List ℕ) → Option (List ℕ) → Result (Unit {0}) Failure → Type 0
-IsExplained form rules before after result =
-    ((lines : List (List Part)) × AreExplanations rules lines × Sent before after result (report_text form lines))
-    × IfErr result IsOutput
+-- the explanations of these rules went out; or the output failed after a prefix of them; with this exit code
+abbrev pub IsExplained : Form → List FaultCode → Option (List ℕ) → Option (List ℕ) → ℕ → Type 0
+IsExplained form rules before after status =
+    (lines : List (List Part)) × AreExplanations rules lines
+    × ((Appends before after (report_text form lines) × (status ≡ 0))
+    ⊎ ((failure : Failure) × IsOutput failure × SendsPrefix before after (report_text form lines) × (status ≡ status_of failure)))
 
 module _ {W : Type 0} (contents : W → Option (List ℕ)) (before after : W) (bytes name : List ℕ) where
   -- there is no such content, and nothing is written; or the output failed after a prefix of it
@@ -69,10 +69,10 @@ module _ {W : Type 0} (contents : W → Option (List ℕ)) (before after : W) (b
       × SendsPrefix (contents before) (contents after) content)
 
   -- the content of the first resource with this name was written (ECMA-335 II.22.24); or it stopped, with a hint if there is one
-  pub record IsExtracting (outcome : Outcome) : Type 0 where
-    pub done : OnOk outcome ((content : List ℕ) × IsContentOf bytes name content × Appends (contents before) (contents after) content)
-    pub stopped : IfErr outcome (λ stopped. IsUnextracted stopped.stop)
-    pub hint : IfErr outcome (λ stopped. stopped.hint ≡ hint_for File bytes stopped.stop)
+  abbrev pub IsExtracting : Outcome → Type 0
+  IsExtracting outcome =
+      MatchResult outcome (λ done. (content : List ℕ) × IsContentOf bytes name content × Appends (contents before) (contents after) content)
+      (λ stopped. IsUnextracted stopped.stop × (stopped.hint ≡ hint_for File bytes stopped.stop))
 
 module _ (request : Request) {W : Type 0} (contents : W → Option (List ℕ)) where
   -- these lines of a report on the file with this name went out
@@ -101,15 +101,17 @@ module _ (request : Request) {W : Type 0} (contents : W → Option (List ℕ)) w
   abbrev pub IsCutAt : W → W → List ℕ → Type 0
   IsCutAt before after name = (bytes : List ℕ) × (failure : Failure) × IsReported before after name bytes (Err failure)
 
-  -- the runs on these files ended, one after another, and the exit code is the greatest of theirs
-  abbrev pub AreRunAll : W → W → List (List ℕ) → ℕ → Type 0
-  AreRunAll before after [] status = (after ≡ before) × (status ≡ 0)
-  AreRunAll before after (name ∷ names) status =
-      (between : W) × (first later : ℕ) × IsRun before between name first × AreRunAll between after names later × (status ≡ max first later)
+  -- the run on a file ended, and the greatest exit code so far is that before it or its own
+  abbrev pub RunsOne : (W × ℕ) → List ℕ → (W × ℕ) → Type 0
+  RunsOne before name after = (status : ℕ) × IsRun before.0 after.0 name status × (after.1 ≡ max before.1 status)
 
-  -- the same for files that were found in a directory
+  -- the runs on files that were found in a directory ended, one after another, and the exit code is the greatest of theirs
   abbrev pub AreVisited : W → W → ℕ → Type 0
-  AreVisited before after status = (found : List (List ℕ)) × AreRunAll before after found status
+  AreVisited before after status = (found : List (List ℕ)) × FoldsTo RunsOne (before, 0) found (after, status)
+
+  -- the run on one of them ended, or it was passed over; for private clauses
+  abbrev pub IsVisited : W → W → ℕ → Type 0
+  IsVisited before after status = ((after ≡ before) × (status ≡ 0)) ⊎ ((name : List ℕ) × IsRun before after name status)
 
   -- the runs on some files ended, and the output failed at the next one
   abbrev pub IsCutAmong : W → W → Type 0

@@ -196,10 +196,10 @@ fn report_stop<E: Write>(
     let input = request.input;
     match (&stop, &request.report, request.naming) {
         (Stop::NoSuchType, Report::OutlineOf(Subject::Path(name), _), Naming::Alone) => {
-            report_missing_type(alloc, bytes, input, Types::Declared, Some(*name), err);
+            report_missing_type(alloc, bytes, input, Types::Declared, name, err);
         }
         (Stop::NoSuchType, Report::RefsOf(Subject::Path(name)), Naming::Alone) => {
-            report_missing_type(alloc, bytes, input, Types::Referred, Some(*name), err);
+            report_missing_type(alloc, bytes, input, Types::Referred, name, err);
         }
         (Stop::Failed(Failure::NoSuchRow), Report::Tokens(numbers), _) => {
             report_missing_row(alloc, bytes, input, numbers.as_slice(), err);

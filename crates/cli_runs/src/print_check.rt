@@ -1,6 +1,5 @@
 //! `clim check`: whether the bytes of a file break a rule.
-ghost use Rattle.std.specs.Prelude.{◌≡◌, ◌∷◌, ◌++◌, List, Some, map};
-ghost use Rattle.std.specs.Option.{option_map};
+ghost use Rattle.std.specs.Prelude.{◌≡◌, ◌∷◌, ◌++◌, List, Some, map, option_map};
 ghost use Rattle.cli_files.specs.Checked.{rules_of};
 ghost use Rattle.cli_lines.specs.Lines.{Part};
 ghost use Rattle.cli_lines.specs.Printed.{Prints};

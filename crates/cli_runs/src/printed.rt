@@ -1,6 +1,5 @@
 //! Prints a report on the bytes of a file, and what rules say.
-ghost use Rattle.std.specs.Prelude.{◌≡◌};
-ghost use Rattle.std.specs.Option.{option_map};
+ghost use Rattle.std.specs.Prelude.{◌≡◌, ◌≤◌, option_map};
 ghost use Rattle.cli_runs.specs.Reports.{label, lead_of};
 ghost use Rattle.cli_runs.specs.Runs.{IsExplained, IsReported};
 
@@ -8,6 +7,7 @@ use crate::print_check::label_of;
 use crate::print_report::print_report;
 use crate::report::{Ended, Job, Report, Request, Verdict};
 use cli_faults::{Failure, Stop};
+use cli_files::{Stopped, status};
 use cli_lines::{Form, Printer};
 use cli_print::print_explanations;
 use cli_roots::{check_within, is_spent};
@@ -85,22 +85,25 @@ fn send_report<'a, W: Write>(job: &Job<'_>, out: &mut W) -> Result<Ended<'a>, Fa
     }
 }
 
-/// Explains rules, or lists all if there is none.
-///
-/// # Errors
-///
-/// The output could not be written, or memory ran out.
-pub fn explain_rules<'a, W: Write>(
+/// Explains rules, or lists all if there is none, and returns the exit code. It is reported to `err` if the output could not be
+/// written, or memory ran out.
+pub fn explain_rules<W: Write, E: Write>(
     alloc: Global,
     rules: &[FaultCode],
     form: Form,
     out: &mut W,
-) -> Result<(), Failure<'a>>
-    ensures { IsExplained form rules.now (W.contents out.old) (W.contents out.new) result }
+    err: &mut E,
+) -> u8
+    ensures limit { result ≤ 3 }
+    ensures run { IsExplained form rules.now (W.contents out.old) (W.contents out.new) result }
+    ensures quiet { result ≡ 0 → err.new ≡ err.old }
 {
     let mut printer = Printer::new(alloc, form, out);
     print_explanations(rules, &mut printer);
     let (writer, sent) = printer.finish();
     let _ = writer;
-    sent
+    match sent {
+        Ok(()) => 0,
+        Err(failure) => status(alloc, Err(Stopped::from(failure)), err),
+    }
 }

@@ -1,6 +1,6 @@
 //! Reports on the files in a directory, and in the directories in it.
-ghost use Rattle.std.specs.Prelude.{◌≡◌, ◌⊎◌};
-ghost use Rattle.cli_runs.specs.Runs.{AreVisited, EndsAs, IsCutAmong};
+ghost use Rattle.std.specs.Prelude.{◌≡◌, ◌⊎◌, ℕ, List};
+ghost use Rattle.cli_runs.specs.Runs.{AreVisited, EndsAs, IsCutAmong, IsCutAt, IsVisited};
 ghost use Rattle.cli_runs.specs.declared.report.Directories.TheVariants.{Walked};
 ghost use Rattle.cli_files.specs.Read.{IsVisit};
 
@@ -62,7 +62,8 @@ fn run_visit<R: Files + Input + AllocGlobal, W: Write, E: Write>(
     err: &mut E,
 ) -> Result<u8, OutputFailed>
     requires { IsVisit visit }
-    ensures { EndsAs err.old err.new (AreVisited request.now W.contents out.old out.new) (IsCutAmong request.now W.contents out.old out.new) result }
+    ensures { EndsAs err.old err.new (IsVisited request.now W.contents out.old out.new)
+        ((name : List ℕ) × IsCutAt request.now W.contents out.old out.new name) result }
 {
     let alloc = rt.alloc();
     match visit {

@@ -26,7 +26,7 @@ fn element_of(code: u32) -> Option<Element>
 }
 
 /// The number of bytes of a value of a type, 0 if its values are no numbers.
-fn size_of(of: Element) -> usize
+pub fn size_of(of: Element) -> usize
     ensures { result ≡ size_of of }
 {
     match of {

@@ -19,5 +19,5 @@ mod units;
 
 pub use actions::push_action;
 pub use bytes::{push_hexadecimal, push_value_bytes};
-pub use constants::push_constant;
+pub use constants::{push_constant, size_of};
 pub use numbers::{push_decimal, push_eight_digits};

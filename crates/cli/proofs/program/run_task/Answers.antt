@@ -1,5 +1,4 @@
-use Rattle.std.proofs.Common.{inl, inr}
-use Rattle.std.specs.Prelude.{option_map}
+use Rattle.std.proofs.Common.{inl, inr, option_map}
 use Rattle.cli_roots.specs.Embedded.{IsEmbedding, WarnsOf}
 use Rattle.cli.proofs.EmbedRuns.{embed_run}
 use Rattle.cli.proofs.program.run_task.Goals as goal
@@ -8,14 +7,14 @@ pub returns-in-OnFiles-clause-quiet : goal.returns-in-OnFiles-clause-quiet
 returns-in-OnFiles-clause-quiet g c =
     λ success. elim (c.run_files.ensures.quiet success) [
       | inl same ↦ inl same
-      | inr walked ↦ inr (rw c.in-OnFiles.is (rw c.request_on-request.ensures at walked))
+      | inr walked ↦ inr (rw c.in-OnFiles.is walked)
     ]
 
 pub returns-in-OnList-clause-quiet : goal.returns-in-OnList-clause-quiet
 returns-in-OnList-clause-quiet g c =
     λ success. elim (c.run_listed.ensures.quiet success) [
       | inl same ↦ inl same
-      | inr walked ↦ inr (rw c.in-OnList.is (rw c.request_on-request-in-OnList.ensures at walked))
+      | inr walked ↦ inr (rw c.in-OnList.is walked)
     ]
 
 pub returns-in-Rewrite-clause-run : goal.returns-in-Rewrite-clause-run
@@ -34,10 +33,10 @@ returns-in-Embed-clause-run g c =
     rw c.in-Embed.is (c.embed_file-outcome.result, run, c.status-in-Embed.ensures.status)
 
 pub returns-in-OnFiles-clause-run : goal.returns-in-OnFiles-clause-run
-returns-in-OnFiles-clause-run g c = rw c.in-OnFiles.is (rw (c.request_on-request.ensures, c.as_slice.ensures.value) at c.run_files.ensures.run)
+returns-in-OnFiles-clause-run g c = rw c.in-OnFiles.is (rw (c.form_on-request.ensures, c.as_slice.ensures.value) at c.run_files.ensures.run)
 
 pub returns-in-OnList-clause-run : goal.returns-in-OnList-clause-run
-returns-in-OnList-clause-run g c = rw c.in-OnList.is (rw (c.request_on-request-in-OnList.ensures, c.path_of.ensures) at c.run_listed.ensures.run)
+returns-in-OnList-clause-run g c = rw c.in-OnList.is (rw (c.form_on-request-in-OnList.ensures, c.path_of.ensures) at c.run_listed.ensures.run)
 
 pub returns-in-Extract-clause-run : goal.returns-in-Extract-clause-run
 returns-in-Extract-clause-run g c = rw c.in-Extract.is (c.extract_file.result, c.extract_file.ensures, c.status-in-Extract.ensures.status)

@@ -1,5 +1,4 @@
-use Rattle.cli.proofs.Prelude.{get_or, refl, take_all}
-use Rattle.cli_names.specs.Names.{NamesCode}
+use Rattle.cli.proofs.Prelude.{get_or, refl, take_all, NamesCode}
 use Rattle.cli.proofs.NamedEach.{first_unknown, next_named}
 use Rattle.cli.proofs.task.explain_of.Goals as goal
 
@@ -7,7 +6,7 @@ pub returns-in_default : goal.returns-in_default
 returns-in_default c =
     let first = first_unknown NamesCode c.args.words.now c.loop-word.word-index _ c.loop-word.rules.items c.loop-word-test.true c.loop-word.invariant
     (λ code is. let wrong = c.in_default.ensures.complete code is in cc) in
-    (get_or c.args.words.now c.loop-word.word-index _, first, c.nearest_code.result, refl)
+    (get_or c.args.words.now c.loop-word.word-index _, first, (c.nearest_code.result, refl))
 
 pub loop-word-preserved : goal.loop-word-preserved
 loop-word-preserved c =

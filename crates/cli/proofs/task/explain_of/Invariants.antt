@@ -1,5 +1,4 @@
-use Rattle.cli.proofs.Prelude.{take, NameEach}
-use Rattle.cli_names.specs.Names.{NamesCode}
+use Rattle.cli.proofs.Prelude.{take, NameEach, NamesCode}
 use Rattle.cli.proofs.task.explain_of.Given as goal
 
 abbrev pub invariant-loop-word : goal.invariant-loop-word

@@ -1,5 +1,4 @@
-use Rattle.cli.proofs.Prelude.{get_or, refl, take_all}
-use Rattle.cli.specs.Tasks.{HasNumber}
+use Rattle.cli.proofs.Prelude.{get_or, refl, take_all, HasNumber}
 use Rattle.cli.proofs.NamedEach.{first_unknown, next_named}
 use Rattle.cli.proofs.task.tokens_of.Goals as goal
 

@@ -1,5 +1,4 @@
-use Rattle.cli.proofs.Prelude.{take, NameEach}
-use Rattle.cli.specs.Tasks.{HasNumber}
+use Rattle.cli.proofs.Prelude.{take, NameEach, HasNumber}
 use Rattle.cli.proofs.task.tokens_of.Given as goal
 
 abbrev pub invariant-loop-word : goal.invariant-loop-word

@@ -1,5 +1,4 @@
-use Rattle.std.proofs.Common.{◌≡◌, map, take}
-use Rattle.std.specs.String.{string_bytes}
+use Rattle.std.proofs.Common.{◌≡◌, map, take, string_bytes}
 use Rattle.cli_faults.specs.Escaped.{escaped_text}
 use Rattle.cli.proofs.usage_text.escaped_words.Given as goal
 

@@ -9,8 +9,7 @@ other_item (Fixed argument) not = absurd (not argument refl)
 other_item _ not = refl
 
 pub returns-in-Some : goal.returns-in-Some
-returns-in-Some g c =
-    rw (c.in-Fixed.is, ← c.in-Some.ensures) (c.parts_follow.ensures.more _ _ _ _ _ c.part.ensures c.part-in-Some.ensures)
+returns-in-Some g c = rw (c.in-Fixed.is, ← c.in-Some.ensures) c.parts.ensures
 
 pub returns-in_default-string_in : goal.returns-in_default-string_in
 returns-in_default-string_in g c = rw (c.in-Fixed.is, ← c.in_default-string_in.ensures) (c.parts_follow.ensures.nothing _)

@@ -10,6 +10,4 @@ pub returns-in-NamedCount : goal.returns-in-NamedCount
 returns-in-NamedCount g c = rw c.in-NamedCount.is (c.parts_follow.ensures.nothing _)
 
 pub returns-in-Named : goal.returns-in-Named
-returns-in-Named g c =
-    let more = c.parts_follow.ensures.more in
-    rw c.in-Named.is (more _ _ _ _ _ c.part.ensures (more _ _ _ _ _ c.part-in-Named.ensures c.print_argument-in-Named.ensures))
+returns-in-Named g c = rw c.in-Named.is (c.parts_follow.ensures.more _ _ _ _ _ c.parts.ensures c.print_argument-in-Named.ensures)

@@ -1,5 +1,4 @@
-use Rattle.cli_info.proofs.Prelude.{◌≤◌, arith, seen, IsLocated}
-use borrow.Author.Count.{below_more}
+use Rattle.cli_info.proofs.Prelude.{◌≤◌, arith, below_more, seen, IsLocated}
 use Rattle.cli_info.proofs.resources.first_outside.Goals as goal
 
 pub loop-row-preserved : goal.loop-row-preserved

@@ -6,13 +6,6 @@ pub returns-in-Some-clause-first_error : goal.returns-in-Some-clause-first_error
 returns-in-Some-clause-first_error g c =
     rw c.resource_in.ensures (refl, of_file _ _ _ c.in-Ok.ensures.opened (λ header model is. c.in-Some.ensures.sound c.args.file.now header model is.0 is.1))
 
-pub returns-in-None-clause-whole : goal.returns-in-None-clause-whole
-returns-in-None-clause-whole g c = c.in-Ok.ensures.opened.0
-
-pub returns-in-None-clause-located : goal.returns-in-None-clause-located
-returns-in-None-clause-located g c =
-    (of_file _ _ _ c.in-Ok.ensures.opened (λ header model is. c.in-None.ensures.none c.args.file.now header model is.0 is.1)).1
-
 pub returns-in-None-clause-printed : goal.returns-in-None-clause-printed
-returns-in-None-clause-printed g c =
-    (of_file _ _ _ c.in-Ok.ensures.opened (λ header model is. c.print_rows.ensures c.args.file.now header model is.0 is.1)).1
+returns-in-None-clause-printed g c = of_file _ _ _ c.in-Ok.ensures.opened (λ header model is.
+    (c.in-None.ensures.none c.args.file.now header model is.0 is.1, c.print_rows.ensures c.args.file.now header model is.0 is.1))

@@ -8,28 +8,20 @@ pub returns-then-is_spent : goal.returns-then-is_spent
 returns-then-is_spent g c = (Ok c.as_slice-bytes.result.now, inl (c.is_spent.ensures c.if-is_spent.true, c.from.ensures, refl))
 
 pub returns-in-Ok-finish : goal.returns-in-Ok-finish
-returns-in-Ok-finish g c =
-    (Ok c.as_slice-bytes.result.now, inr (record { done = (c.in-Ok.content.now, c.in-Ok.ensures.sound, c.in-Ok-finish.ensures); stopped = tt; hint = tt }))
+returns-in-Ok-finish g c = (Ok c.as_slice-bytes.result.now, inr (c.in-Ok.content.now, c.in-Ok.ensures.sound, c.in-Ok-finish.ensures))
 
 pub returns-in-Ok : goal.returns-in-Ok
 returns-in-Ok g c =
     let found = c.in-Ok in
     let at = c.at.ensures in (
       Ok c.as_slice-bytes.result.now,
-      inr (record {
-        done = tt;
-        stopped = rw at.stop (inr (c.of_printing.result, found.content.now, refl, c.of_printing.ensures.reported, found.ensures.sound, c.in-Err-finish.ensures));
-        hint = rw at.stop at.hint;
-      }),
+      inr (
+        rw at.stop (inr (c.of_printing.result, found.content.now, refl, c.of_printing.ensures.reported, found.ensures.sound, c.in-Err-finish.ensures)),
+        rw at.stop at.hint,
+      ),
     )
 
 pub returns : goal.returns
 returns g c =
-    let at = c.at-in-Err.ensures in (
-      Ok c.as_slice-bytes.result.now,
-      inr (record {
-        done = tt;
-        stopped = rw at.stop (inl (c.in-Err.ensures.unfound, refl));
-        hint = rw at.stop at.hint;
-      }),
-    )
+    let at = c.at-in-Err.ensures in
+    (Ok c.as_slice-bytes.result.now, inr (rw at.stop (inl (c.in-Err.ensures.unfound, refl)), rw at.stop at.hint))

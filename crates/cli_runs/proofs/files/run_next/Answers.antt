@@ -1,5 +1,5 @@
-use Rattle.cli_runs.proofs.Prelude.{◌≡◌, ◌&&◌, List, ℕ, Err, arith, inl, inr, refl, subst, true, NotUtf8, IsCutAt, IsRun, is_input}
-use Rattle.cli_runs.proofs.Running.{ends_weaker, next_run}
+use Rattle.cli_runs.proofs.Prelude.{◌≡◌, ◌&&◌, List, ℕ, Err, arith, inl, inr, refl, subst, true, MatchResult-weaker, NotUtf8, IsCutAt, IsRun, is_input}
+use Rattle.cli_runs.proofs.Running.{next_run}
 use Rattle.cli_runs.proofs.files.run_next.Goals as goal
 
 pub returns-then-is_again : goal.returns-then-is_again
@@ -18,17 +18,21 @@ returns-in_default g c = (
 pub returns-then-is_walked : goal.returns-then-is_walked
 returns-then-is_walked g c =
     let walked = c.is_walked.ensures c.if-is_walked.true in
-    ends_weaker _ _ _ _ _ _ c.run_tree.result
-    (λ status ran. next_run c.args.request.now g.W.Write.contents _ c.args.out.now c.run_tree.new.out c.args.name.now status (rw c.is_input.ensures at c.if-is_again.false) (inr (walked, ran)))
-    (λ cut. inr (walked, cut)) c.run_tree.ensures
+    MatchResult-weaker c.run_tree.result c.run_tree.ensures
+    (λ status ran. (ran.0, ran.1, next_run c.args.request.now g.W.Write.contents _ c.args.out.now c.run_tree.new.out c.args.name.now status (rw c.is_input.ensures at c.if-is_again.false) (inr (walked, ran.2))))
+    (λ failed cut. inr (walked, cut))
 
 pub returns-in-Ok-read_into : goal.returns-in-Ok-read_into
 returns-in-Ok-read_into g c =
     let path = c.in-Ok.ensures.cases.0 in
-    ends_weaker _ _ _ _ _ _ c.run_on_bytes.result
-    (λ status ran. next_run c.args.request.now g.W.Write.contents _ c.args.out.now c.run_on_bytes.new.out c.args.name.now status (rw c.is_input.ensures at c.if-is_again.false)
-    (inl (subst (λ (of : List ℕ). IsRun c.args.request.now g.W.Write.contents c.args.out.now c.run_on_bytes.new.out of status) path ran)))
-    (λ cut. inl (subst (IsCutAt c.args.request.now g.W.Write.contents c.args.out.now c.run_on_bytes.new.out) path cut)) c.run_on_bytes.ensures
+    MatchResult-weaker c.run_on_bytes.result c.run_on_bytes.ensures
+    (λ status ran. (
+      ran.0,
+      ran.1,
+      next_run c.args.request.now g.W.Write.contents _ c.args.out.now c.run_on_bytes.new.out c.args.name.now status (rw c.is_input.ensures at c.if-is_again.false)
+          (inl (subst (λ (of : List ℕ). IsRun c.args.request.now g.W.Write.contents c.args.out.now c.run_on_bytes.new.out of status) path ran.2)),
+    ))
+    (λ failed cut. inl (subst (IsCutAt c.args.request.now g.W.Write.contents c.args.out.now c.run_on_bytes.new.out) path cut))
 
 pub returns-in-Err : goal.returns-in-Err
 returns-in-Err g c = (

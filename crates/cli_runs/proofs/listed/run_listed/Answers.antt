@@ -1,5 +1,4 @@
-use Rattle.cli_runs.proofs.Prelude.{◌∙◌, Ok, Err, ap, inl, refl, OutOfMemory}
-use Rattle.cli_faults.specs.Stops.{status_of_stop}
+use Rattle.cli_runs.proofs.Prelude.{◌∙◌, Ok, Err, ap, inl, refl, OutOfMemory, status_of_stop}
 use Rattle.cli_runs.proofs.listed.run_listed.Goals as goal
 
 pub returns-in-Err-clause-run : goal.returns-in-Err-clause-run

@@ -8,9 +8,7 @@ returns-in-Err-print_root_until_fault g c =
     rw c.in-RootUntilFault.is (c.in-Err-print_root_until_fault.fault, refl, stopped.first_error, stopped.readable)
 
 pub returns-in-Ok-print_resources : goal.returns-in-Ok-print_resources
-returns-in-Ok-print_resources g c =
-    let done = c.in-Ok-print_resources.ensures in
-    rw c.in-Resources.is (done.whole, (λ header model is. (done.located header model is, done.printed header model is)))
+returns-in-Ok-print_resources g c = rw c.in-Resources.is c.in-Ok-print_resources.ensures.printed
 
 pub returns-in-Err-print_resources : goal.returns-in-Err-print_resources
 returns-in-Err-print_resources g c =

@@ -1,14 +1,20 @@
-use Rattle.std.proofs.Common.{◌∙◌, [], arith, refl}
-use Rattle.cli_runs.proofs.Running.{cut_more, unread_visited, visited_more}
+use Rattle.cli_runs.proofs.Prelude.{◌∙◌, Err, [], arith, inr, refl}
+use Rattle.cli_runs.proofs.Running.{visited_more}
 use Rattle.cli_runs.proofs.tree.run_tree.Goals as goal
 
 pub returns-in-Err : goal.returns-in-Err
 returns-in-Err g c =
     let unread = c.report_unread.ensures in
-    (unread.limit, unread.quiet, unread_visited c.args.request.now g.W.Write.contents c.args.out.now c.args.root.now c.in-Err.failure c.report_unread.result c.in-Err.ensures unread.status)
+    let out = c.args.out.now in
+    let status = c.report_unread.result in (
+      unread.limit,
+      unread.quiet,
+      visited_more c.args.request.now g.W.Write.contents out out out 0 status status (omega arith) ([], refl)
+          (inr (c.args.root.now, (Err c.in-Err.failure, (c.in-Err.ensures, unread.status, refl)))),
+    )
 
 pub loop-step-init : goal.loop-step-init
-loop-step-init g c = record { ran = ([], (refl, refl)); within = omega arith; quiet = λ is. refl }
+loop-step-init g c = record { ran = ([], refl); within = omega arith; quiet = λ is. refl }
 
 pub loop-step-preserved : goal.loop-step-preserved
 loop-step-preserved g c = record {
@@ -19,5 +25,4 @@ loop-step-preserved g c = record {
 }
 
 pub returns-in-Err-run_visit : goal.returns-in-Err-run_visit
-returns-in-Err-run_visit g c =
-    cut_more c.args.request.now g.W.Write.contents c.args.out.now c.loop-step.out c.run_visit.new.out c.loop-step.greatest c.loop-step.invariant.ran c.in-Err-run_visit.ensures
+returns-in-Err-run_visit g c = (c.loop-step.out, c.loop-step.greatest, c.loop-step.invariant.ran, c.in-Err-run_visit.ensures)

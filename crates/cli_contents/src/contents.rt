@@ -1,23 +1,28 @@
-//! The data of fields in a file, and its size (II.22.8, II.22.18).
-ghost use Rattle.std.specs.Prelude.{◌≡◌, ◌≤◌, ◌^◌, IfSome, length};
-ghost use Rattle.table_schema.specs.declared.table.TableId.TheVariants.{ClassLayout, Field, TypeDef};
+//! The bodies of methods and the data of fields in a file, and the size of data (II.22.8, II.22.18, II.25.4).
+ghost use Rattle.std.specs.Prelude.{◌≡◌, ◌≤◌, ◌^◌, length};
+ghost use Rattle.table_schema.specs.declared.table.TableId.TheVariants.{Field, MethodDef};
 ghost use Rattle.metadata.specs.Metadata.{Metadata, cell_in};
 ghost use Rattle.metadata.specs.Model.{IsModel};
 ghost use Rattle.opening.specs.Views.{row_count};
 ghost use Rattle.custom_attributes.specs.Signatures.{items_in};
-ghost use Rattle.cli_values.specs.Constants.{size_of};
-ghost use Rattle.cli_contents.specs.FieldData.{class_size, data_in, data_of, data_size, field_type, layout_size, type_size};
+ghost use Rattle.cli_contents.specs.Contents.{body_at, body_of, class_size, data_in, data_of, field_type, type_size};
 
-use crate::bodies::Body;
+use cli_values::size_of;
+use file_ranges::body_end;
 use navigation::{Link, Neighbours};
 use opening::{CellRef, TableId, Token, View, number_or_zero};
 use pe::Pe;
-use sig_grammar::Element;
 use sig_items::{Item, Items};
 use table_schema::SigKind;
 
-/// The cell of the address of data (II.22.18).
+/// The cell of the address of a body (II.22.26) and of data (II.22.18), an RVA.
 const RVA: usize = 0;
+
+/// The cell of the ImplFlags of a method (II.22.26).
+const IMPL_FLAGS: usize = 1;
+
+/// The number of the types of code, of which the first is CIL (II.23.1.10).
+const CODE_TYPES: u32 = 4;
 
 /// The cell of the size of a type (II.22.8).
 const CLASS_SIZE: usize = 1;
@@ -28,33 +33,48 @@ const SIGNATURE: usize = 2;
 /// No signature of two items has more bytes: each item has at most 64.
 const LONGEST: usize = 128;
 
-/// The size of a value of a simple type in bytes (II.23.1.16); 0 if it depends on the machine, or if the value is elsewhere.
-fn element_size(of: Element) -> u32
-    ensures { result ≡ size_of of }
-{
-    match of {
-        Element::Boolean | Element::I1 | Element::U1 => 1,
-        Element::Char | Element::I2 | Element::U2 => 2,
-        Element::I4 | Element::U4 | Element::R4 => 4,
-        Element::I8 | Element::U8 | Element::R8 => 8,
-        Element::String | Element::I | Element::U | Element::Object => 0,
-    }
+/// Where the body of a method (II.25.4) or the data of a field (II.22.18) is in a file.
+#[derive(Clone, Copy)]
+pub(crate) struct Body {
+    /// The file offset of its first byte.
+    pub start: usize,
+    /// Its number of bytes: that of a body with its header and its data sections, and of data 0 if it is not known.
+    pub size: usize,
 }
 
-/// ClassSize in a row of ClassLayout; 0 if there is no row.
-#[tactic(auto, unfolding(table_schema::specs::CellColumns::cell_columns))]
-fn layout_size(view: &View<'_>, layout: Option<u32>) -> u32
-    requires { IfSome layout (λ row. (1 ≤ row) × (row ≤ row_count view.now ClassLayout)) }
-    ensures { (model : Metadata) → IsModel view.now model → result ≡ layout_size model layout }
+/// The body of a method with this address and these ImplFlags, if it has code of CIL in the file.
+#[tactic(auto, unfolding(crate::specs::Contents::body_at))]
+fn body_at(pe: &Pe<'_>, rva: u32, flags: u32) -> Option<Body>
+    requires { length pe.now.bytes ≤ 2 ^ 30 }
+    ensures { result ≡ body_at pe.now rva flags }
 {
-    match layout {
-        Some(row) => number_or_zero(view, TableId::ClassLayout, row, CLASS_SIZE),
-        None => 0,
+    if rva == 0 || flags % CODE_TYPES != 0 {
+        return None;
     }
+    let range = pe.range(rva, 1)?;
+    let (_, body) = pe.bytes().split_at(range.start);
+    Some(Body {
+        start: range.start,
+        size: body_end(body)?,
+    })
+}
+
+/// The body of a method, if it has code of CIL in the file.
+#[tactic(auto, unfolding(table_schema::specs::CellColumns::cell_columns))]
+pub(crate) fn body_of(pe: &Pe<'_>, view: &View<'_>, row: u32) -> Option<Body>
+    requires small { length pe.now.bytes ≤ 2 ^ 30 }
+    requires first { 1 ≤ row }
+    requires last { row ≤ row_count view.now MethodDef }
+    ensures { (model : Metadata) → IsModel view.now model → result ≡ body_of pe.now model row }
+{
+    let rva = number_or_zero(view, TableId::MethodDef, row, RVA);
+    let flags = number_or_zero(view, TableId::MethodDef, row, IMPL_FLAGS);
+    body_at(pe, rva, flags)
 }
 
 /// The size of a type of this file, by its row of ClassLayout; 0 if it is not known.
-fn class_size(source: &Neighbours<'_, '_>, of: Token) -> u32
+#[tactic(auto, unfolding(table_schema::specs::CellColumns::cell_columns))]
+fn class_size(source: &Neighbours<'_, '_>, of: Token) -> usize
     ensures { (model : Metadata) → IsModel source.now.view.now model → result ≡ class_size model of.table of.row }
 {
     let TableId::TypeDef = of.table else {
@@ -64,8 +84,12 @@ fn class_size(source: &Neighbours<'_, '_>, of: Token) -> u32
     if row > source.view.count(table) {
         return 0;
     }
-    let layout = source.first_linked(Link::TypeLayouts, Token { table, row });
-    layout_size(source.view, layout)
+    match source.first_linked(Link::TypeLayouts, Token { table, row }) {
+        Some(layout) => {
+            number_or_zero(source.view, TableId::ClassLayout, layout, CLASS_SIZE) as usize
+        }
+        None => 0,
+    }
 }
 
 /// The type of a field by the items of its signature, if it is one item.
@@ -82,7 +106,7 @@ fn field_type(mut items: Items<'_>) -> Option<Item>
     }
 }
 
-/// The same of a field. A signature that is longer has too many items.
+/// The type of a field in a row. A signature that is longer has too many items.
 #[tactic(auto, unfolding(table_schema::specs::CellColumns::cell_columns))]
 fn type_of_field(view: &View<'_>, field: u32) -> Option<Item>
     requires first { 1 ≤ field }
@@ -102,37 +126,26 @@ fn type_of_field(view: &View<'_>, field: u32) -> Option<Item>
     }
 }
 
-/// The size of a type; 0 if it is not known.
-fn type_size(source: &Neighbours<'_, '_>, of: Option<Item>) -> u32
+/// The number of bytes of a value of a type; 0 if it is not known.
+fn type_size(source: &Neighbours<'_, '_>, of: Option<Item>) -> usize
     ensures { (model : Metadata) → IsModel source.now.view.now model → result ≡ type_size model of }
 {
     match of {
-        Some(Item::Simple(of)) => element_size(of),
+        Some(Item::Simple(of)) => size_of(of),
         Some(Item::Value(of)) => class_size(source, of),
         _ => 0,
     }
 }
 
-/// The number of bytes of a field by its type; 0 if it is not known.
-fn data_size(source: &Neighbours<'_, '_>, field: u32) -> u32
-    requires first { 1 ≤ field }
-    requires last { field ≤ row_count source.now.view.now Field }
-    ensures { (model : Metadata) → IsModel source.now.view.now model → result ≡ data_size model field }
-{
-    type_size(source, type_of_field(source.view, field))
-}
-
-/// The data of a field at an address, if its first byte is in the file.
-fn data_in(pe: &Pe<'_>, field: u32, rva: u32, size: u32) -> Option<Body>
+/// The data at an address, if its first byte is in the file.
+fn data_in(pe: &Pe<'_>, rva: u32, size: usize) -> Option<Body>
     requires { length pe.now.bytes ≤ 2 ^ 30 }
-    ensures of { result ≡ data_in pe.now field rva size }
-    ensures row { IfSome result (λ of. of.row ≡ field) }
+    ensures { result ≡ data_in pe.now rva size }
 {
     let range = pe.range(rva, 1)?;
     Some(Body {
-        row: field,
         start: range.start,
-        size: size as usize,
+        size,
     })
 }
 
@@ -142,13 +155,13 @@ pub(crate) fn data_of(pe: &Pe<'_>, source: &Neighbours<'_, '_>, field: u32) -> O
     requires small { length pe.now.bytes ≤ 2 ^ 30 }
     requires first { 1 ≤ field }
     requires last { field ≤ row_count source.now.view.now Field }
-    ensures data { (model : Metadata) → IsModel source.now.view.now model → result ≡ data_of pe.now model field }
-    ensures row { IfSome result (λ of. of.row ≡ field) }
+    ensures { (model : Metadata) → IsModel source.now.view.now model → result ≡ data_of pe.now model field }
 {
     let table = TableId::Field;
     // The table has at most 0xFFFFFF rows.
     let _count = source.view.count(table);
     let row = source.first_linked(Link::FieldData, Token { table, row: field })?;
     let rva = number_or_zero(source.view, TableId::FieldRVA, row, RVA);
-    data_in(pe, field, rva, data_size(source, field))
+    let size = type_size(source, type_of_field(source.view, field));
+    data_in(pe, rva, size)
 }

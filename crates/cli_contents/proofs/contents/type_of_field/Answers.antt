@@ -7,7 +7,7 @@ use Rattle.sig_items.specs.declared.item.Item.TheVariants as item
 use Rattle.metadata.specs.Valid.{kind_at}
 use Rattle.custom_attributes.proofs.LengthLemmas.{short_encoding}
 use Rattle.custom_attributes.proofs.TypeLemmas.{no_signature}
-use Rattle.cli_contents.proofs.field_data.type_of_field.Goals as goal
+use Rattle.cli_contents.proofs.contents.type_of_field.Goals as goal
 
 -- more items than the two of a field
 many_items : (items : List Item) → 2 < length items → None ≡ field_type items
