@@ -16,7 +16,7 @@ use std::{fmt, io};
 /// Why the program could not do what it was asked to do. `Display` gives the line for standard error, without the last
 /// line feed: for a fault `fault LAYER CODE at OFFSET: NAME`. Paths and other arguments in it are [`Escaped`]. If a file
 /// or the output could not be used, a second line has the reason.
-#[derive(Clone, Copy, PartialEq, Eq)]
+#[derive(Clone, Copy)]
 pub enum Failure<'a> {
     /// The file breaks a rule of the standard.
     Fault(Fault),

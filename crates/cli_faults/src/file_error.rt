@@ -7,7 +7,7 @@ use std::fmt;
 use std::io::ErrorKind;
 
 /// A file that could not be read or written. `Display` gives its path, escaped, and a second line with the reason.
-#[derive(Clone, Copy, PartialEq, Eq)]
+#[derive(Clone, Copy)]
 pub struct FileError<'a> {
     /// The path of the file, as it was given.
     pub path: &'a str,
@@ -41,7 +41,7 @@ impl fmt::Display for FileError<'_> {
 
 /// Why a file or the output could not be read or written: the kinds of error that a user can do something about. `Display`
 /// gives a few words.
-#[derive(Clone, Copy, PartialEq, Eq)]
+#[derive(Clone, Copy)]
 pub enum Reason {
     /// No file has this path, or no folder is where it should be created.
     NoSuchFile,

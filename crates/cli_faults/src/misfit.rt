@@ -5,7 +5,7 @@ ghost use Rattle.cli_faults.specs.Texts.{misfit_text};
 use std::fmt;
 
 /// Why a root is not put into a file, although both follow the rules. `Display` gives a few words.
-#[derive(Clone, Copy, PartialEq, Eq)]
+#[derive(Clone, Copy)]
 pub enum Misfit {
     /// Methods, RVAs or user strings of the root are not those of FILE.
     Unlike,

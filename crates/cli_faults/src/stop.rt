@@ -8,7 +8,7 @@ use std::fmt;
 use table_schema::Token;
 
 /// Why the program stopped early. `Display` gives the line for standard error, without the line feed.
-#[derive(Clone, Copy, PartialEq, Eq)]
+#[derive(Clone, Copy)]
 pub enum Stop<'a> {
     /// It failed.
     Failed(Failure<'a>),

@@ -10,7 +10,7 @@ use table_schema::TableId;
 
 /// An argument that `clap` accepts and the subcommand does not. `Display` gives the line for standard error, without
 /// the line feed. Arguments in it are [`Escaped`].
-#[derive(Clone, Copy, PartialEq, Eq)]
+#[derive(Clone, Copy)]
 pub enum UsageError<'a> {
     /// The argument is not a token.
     NoToken(&'a str),
