@@ -38,20 +38,20 @@ holder model ExportedType row = field name.Type (text (text_in (cell_in model Ex
 holder model _ row = field name.Type (text [])
 
 -- where a resource is: the offset and the size of its content in this file, or what has it
-abbrev pub place_of : Metadata → Where → List Part
-place_of model (here offset content) =
+abbrev pub location_parts : Metadata → Where → List Part
+location_parts model (here offset content) =
     word (codes "resource ") ∷ field name.Offset (number offset) ∷ word (codes " ") ∷ field name.Size (number (length content)) ∷ []
-place_of model (elsewhere of) = word (codes "resource in ") ∷ holder model of.table of.row ∷ []
+location_parts model (elsewhere of) = word (codes "resource in ") ∷ holder model of.table of.row ∷ []
 
 -- the line of a resource: where it is, its visibility and its name
 unfoldable pub line_of : Token → List Part → ℕ → List ℕ → List Part
-line_of row place flags of =
-    opens name.Resource ∷ member name.Token (token row) ∷ place
+line_of row location flags of =
+    opens name.Resource ∷ member name.Token (token row) ∷ location
     ++ word (codes " ") ∷ field name.Visibility (visibility flags) ∷ word (codes " ") ∷ field name.Name (text of) ∷ closes ∷ []
 
 abbrev pub resource_line : Metadata → ℕ → Where → List Part
 resource_line model row location =
-    line_of (resource_in row) (place_of model location) (number_in (cell_in model ManifestResource row 1)) (text_in (cell_in model ManifestResource row 2))
+    line_of (resource_in row) (location_parts model location) (number_in (cell_in model ManifestResource row 1)) (text_in (cell_in model ManifestResource row 2))
 
 -- the resource in each row is at its location
 abbrev pub AreLocations : List ℕ → CliHeader → Metadata → (ℕ → Where) → Type 0

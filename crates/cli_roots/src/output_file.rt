@@ -151,7 +151,7 @@ fn replace<'a, R: Files + AllocGlobal>(
         &error, path,
     ))?;
     let outcome = match send(bytes, file, path) {
-        Ok(file) => match place(rt, &file, replaced, beside.as_str(), target.as_str()) {
+        Ok(file) => match finish(rt, &file, replaced, beside.as_str(), target.as_str()) {
             Ok(()) => Ok(file),
             Err(error) => Err(Failure::of_opening(&error, path)),
         },
@@ -207,7 +207,13 @@ fn prefix_of(name: &str, room: usize) -> &str
 
 /// Gives a written file the permissions of the one that it replaces, and its path. Its owner stays the user who runs the
 /// program, so it gets no bit that lets others act as that user.
-fn place<R: Files>(rt: &R, file: &R::File, old: &Metadata, from: &str, to: &str) -> io::Result<()> {
+fn finish<R: Files>(
+    rt: &R,
+    file: &R::File,
+    old: &Metadata,
+    from: &str,
+    to: &str,
+) -> io::Result<()> {
     file.set_permissions(Permissions::from_mode(old.mode() & ACCESS))?;
     file.sync_all()?;
     fs::rename(rt, from, to)
